@@ -1,6 +1,5 @@
 -- Counts of faults and refusals, and the answers that they are the cause of.
-use Rattle.std.specs.Prelude.{◌≤◌, ◌+◌, ◌-◌, ◌^◌, ℕ, min, OnErr}
-use Rattle.std.specs.Result.{Result}
+use Rattle.std.specs.Prelude.{◌≤◌, ◌+◌, ◌-◌, ◌^◌, ℕ, min, OnErr, Result}
 
 -- a count that stands still at its type's last value rose, or stands there
 abbrev pub Rose : ℕ → ℕ → Type 0
