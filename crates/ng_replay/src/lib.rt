@@ -1,0 +1,10 @@
+//! Replay: the ops of a plan are done on a heap, and each gets its reply.
+#![tactic(auto)]
+
+mod heap;
+mod make;
+mod op;
+
+pub use heap::SequentialHeap;
+pub use ng_terms::{Made, Mode, Reply};
+pub use op::do_op;
