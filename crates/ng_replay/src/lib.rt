@@ -2,9 +2,11 @@
 #![tactic(auto)]
 
 mod heap;
+mod lone;
 mod make;
 mod op;
 
 pub use heap::SequentialHeap;
+pub use lone::serial_alone;
 pub use ng_terms::{Made, Mode, Reply};
 pub use op::do_op;
