@@ -15,15 +15,15 @@ bit_at-or_or avail freed bit i =
     bit_at_or (bit_or avail freed) (2 ^ bit) i ∙ ap (λ x. max x (bit_at (2 ^ bit) i)) (bit_at_or avail freed i)
 
 -- where they are all bits to the last, they fill the group
-pub FillsGroup-all : (avail freed bit last : ℕ) → bit_or (bit_or avail freed) (2 ^ bit) ≡ all_bits_of last → FillsGroup avail freed bit last
-FillsGroup-all avail freed bit last all other within apart =
+pub fills_from_all : (avail freed bit last : ℕ) → bit_or (bit_or avail freed) (2 ^ bit) ≡ all_bits_of last → FillsGroup avail freed bit last
+fills_from_all avail freed bit last all other within apart =
     let here : bit_at (bit_or (bit_or avail freed) (2 ^ bit)) other ≡ bit_at (all_bits_of last) other = ap (λ n. bit_at n other) all in
     omega (arith, here, bit_at-or_or avail freed bit other, bit_at-all_bits_of last other within, bit_at-pow_other bit other apart)
 
 -- where they fill the group, they are all bits to the last
-pub all-FillsGroup : (avail freed bit last : ℕ) → bit ≤ last → avail < 2 ^ (last + 1) → freed < 2 ^ (last + 1)
+pub all_from_fills : (avail freed bit last : ℕ) → bit ≤ last → avail < 2 ^ (last + 1) → freed < 2 ^ (last + 1)
     → FillsGroup avail freed bit last → bit_or (bit_or avail freed) (2 ^ bit) ≡ all_bits_of last
-all-FillsGroup avail freed bit last own few_avail few_freed fills = same_from_bits _ _ (λ other.
+all_from_fills avail freed bit last own few_avail few_freed fills = same_from_bits _ _ (λ other.
     let parts : bit_at (bit_or (bit_or avail freed) (2 ^ bit)) other ≡ max (max (bit_at avail other) (bit_at freed other)) (bit_at (2 ^ bit) other) = bit_at-or_or avail freed bit other in
     ⊎_elim
     (λ (above : last < other). omega (arith, parts, bit_at-all_bits_of_above last other above, bit_at-pow_other bit other (omega arith), bit_at_above avail (last + 1) other few_avail (omega arith), bit_at_above freed (last + 1) other few_freed (omega arith)))
@@ -34,7 +34,7 @@ all-FillsGroup avail freed bit last own few_avail few_freed fills = same_from_bi
     (cases_lt last other))
 
 -- the test `avail | freed | 1 << bit == all_bits(last)`, as code computes it
-pub FillsGroup-test : (avail freed bit last : ℕ) → bit ≤ last → last < 32 → avail < 2 ^ (last + 1) → freed < 2 ^ (last + 1)
+pub fills_test : (avail freed bit last : ℕ) → bit ≤ last → last < 32 → avail < 2 ^ (last + 1) → freed < 2 ^ (last + 1)
     → (bit_or (bit_or avail freed) (1 * 2 ^ bit % 2 ^ 32) ≡ all_bits_of last) ↔ FillsGroup avail freed bit last
-FillsGroup-test avail freed bit last own known few_avail few_freed =
-    rw (one_shl bit 32 (omega arith)) ((λ all. FillsGroup-all avail freed bit last all), λ fills. all-FillsGroup avail freed bit last own few_avail few_freed fills)
+fills_test avail freed bit last own known few_avail few_freed =
+    rw (one_shl bit 32 (omega arith)) ((λ all. fills_from_all avail freed bit last all), λ fills. all_from_fills avail freed bit last own few_avail few_freed fills)

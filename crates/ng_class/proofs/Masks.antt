@@ -1,23 +1,23 @@
 -- Masks of slots: the lowest bit, the bits to the last, one bit set or cleared, disjoint masks.
-use Rattle.std.proofs.Common.{◌≡◌, ◌≢◌, ℕ, ◌+◌, ◌*◌, ◌/◌, ◌%◌, ◌^◌, ◌<◌, ◌≤◌, arith, ap, ⊎_elim}
+use Rattle.std.proofs.Common.{◌≡◌, ◌-◌, ◌∙◌, ◌/◌, ◌≢◌, ℕ, ◌+◌, ◌*◌, ◌/◌, ◌%◌, ◌^◌, ◌<◌, ◌≤◌, arith, ap, ⊎_elim}
 use Rattle.std.specs.Prelude.{bit_and, bit_or}
 use Rattle.std.specs.Int.{bit_at, bit_not, Width, w32, trailing_zeros}
 use mir.Val.{bits}
 use Rattle.std.proofs.lemmas.Bool.{cases_eq, cases_lt}
 use Rattle.std.proofs.lemmas.Nat.{or_disjoint, and-not, and_comm, pow_pos}
 use Rattle.std.proofs.Math.Nat.{add-div_right}
-use Rattle.std.proofs.lemmas.Nat.Bits.{bit_at-trailing_zeros, bit_at_ones, bit_at_ones_above, bit_at-lt, bit_at_and, bit_at_or, bit_at-zero, bit_at-pow_same, bit_at-pow_other, bit_at_above, bit_at_set_same, bit_at_set_other, bit_at_clear_same, bit_at_clear_other, same_from_bits}
+use Rattle.std.proofs.lemmas.Nat.Bits.{bit_at-trailing_zeros, bit_at_ones, bit_at_ones_above, ones_shr, bit_at-lt, bit_at_and, bit_at_or, bit_at-zero, bit_at-pow_same, bit_at-pow_other, bit_at_above, bit_at_set_same, bit_at_set_other, bit_at_clear_same, bit_at_clear_other, same_from_bits}
 use Rattle.ng_class.specs.Mask.{IsLowestBit, HasBitsTo, all_bits_of, SetsBit, ClearsBit, AreDisjoint}
 
 -- what `trailing_zeros` answers at a mask with a bit set
-pub IsLowestBit-trailing_zeros : (mask : ℕ) → 0 < mask → mask < 2 ^ 32 → IsLowestBit mask (trailing_zeros w32 mask)
-IsLowestBit-trailing_zeros mask some fits =
+pub lowest_trailing_zeros : (mask : ℕ) → 0 < mask → mask < 2 ^ 32 → IsLowestBit mask (trailing_zeros w32 mask)
+lowest_trailing_zeros mask some fits =
     let (known, set, lowest) = bit_at-trailing_zeros w32 mask some fits in
     record { known = known; set = set; lowest = lowest }
 
 -- a mask has one lowest bit
-pub IsLowestBit-unique : (mask bit other : ℕ) → IsLowestBit mask bit → IsLowestBit mask other → bit ≡ other
-IsLowestBit-unique mask bit other a b =
+pub lowest_bit_unique : (mask bit other : ℕ) → IsLowestBit mask bit → IsLowestBit mask other → bit ≡ other
+lowest_bit_unique mask bit other a b =
     ⊎_elim
     (λ (below : bit < other). absurd (omega (arith, b.lowest bit below, a.set)))
     (λ (rest : other ≤ bit). ⊎_elim
@@ -42,11 +42,22 @@ bit_at-all_bits_of last bit within = bit_at_ones (last + 1) bit (omega arith)
 pub bit_at-all_bits_of_above : (last bit : ℕ) → last < bit → bit_at (all_bits_of last) bit ≡ 0
 bit_at-all_bits_of_above last bit above = bit_at_ones_above (last + 1) bit (omega arith)
 
-pub HasBitsTo-all_bits_of : (last : ℕ) → HasBitsTo (all_bits_of last) last
-HasBitsTo-all_bits_of last bit = (
+-- and so its bits are those to the last
+pub has_all_bits : (last : ℕ) → HasBitsTo (all_bits_of last) last
+has_all_bits last bit = (
   λ set. ⊎_elim (λ (above : last < bit). absurd (omega (arith, bit_at-all_bits_of_above last bit above, set))) (λ within. within) (cases_lt last bit),
   λ within. bit_at-all_bits_of last bit within,
 )
+
+-- the largest mask without its bits above last, as `MAX >> (31 - last)` computes it
+pub shifted_ones : (last : ℕ) → last < 32 → (2 ^ 32 - 1) / 2 ^ (31 - last) ≡ all_bits_of last
+shifted_ones last known =
+    let places : 32 - (31 - last) ≡ last + 1 = omega arith in
+    ones_shr 32 (31 - last) (omega arith) ∙ ap (λ k. 2 ^ k - 1) places
+
+-- and so does that mask
+pub has_shifted_ones : (last : ℕ) → last < 32 → HasBitsTo ((2 ^ 32 - 1) / 2 ^ (31 - last)) last
+has_shifted_ones last known = rw (shifted_ones last known) (has_all_bits last)
 
 -- the mask with the bit set, as `mask | 1 << bit` computes it at a width
 pub SetsBit-or : (w : Width) (mask bit : ℕ) → bit < bits w → SetsBit mask (bit_or mask (1 * 2 ^ bit % 2 ^ bits w)) bit

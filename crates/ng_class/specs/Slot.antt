@@ -12,12 +12,13 @@ pub record IsLoneGroup (class last maplen : ℕ) : Type 0 where
 abbrev pub IsGroupClass : ℕ → ℕ → ℕ → Type 0
 IsGroupClass class last maplen = class < 48 ⊎ IsLoneGroup class last maplen
 
--- the bytes from slot to slot: the class size, but a lone slot of a mapped group has the whole run
+-- the bytes from slot to slot: the class size, but a slot alone in its run of pages of 4096 bytes
+-- has all but 16 of these
 unfoldable pub stride_of : ℕ → ℕ → ℕ → ℕ
 stride_of class last maplen =
     if last == 0 && nat_lt 0 maplen then maplen * 4096 - 16 else 16 * units_of class
 
--- the bytes in which a block may begin: the stride, but below class 63 at most the class size
+-- the bytes in which a block may be placed: the stride, but at most the size of a class below 48
 unfoldable pub room_of : ℕ → ℕ → ℕ → ℕ
 room_of class last maplen =
     if class == 63 then stride_of class last maplen

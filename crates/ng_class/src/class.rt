@@ -38,13 +38,22 @@ pub fn class_of(n: u64) -> Option<u32>
     ensures least { IfSome result (IsLeastClass n) }
 {
     if n >= THRESHOLD {
-        return None;
+        None
+    } else {
+        Some(least_class(n))
     }
+}
+
+// The place in the table of the first slot that is large enough.
+fn least_class(n: u64) -> u32
+    requires { n < THRESHOLD }
+    ensures { IsLeastClass n result }
+{
     let size = n + IB;
     let class = UNITS.partition_point(
         |units: &u16| -> bool
             ensures { result ≡ nat_lt (16 * units.now) size }
         { UNIT * u64::from(*units) < size },
     );
-    Some(class as u32)
+    class as u32
 }

@@ -3,6 +3,7 @@ ghost use Rattle.std.specs.Prelude.{◌≡◌, ◌<◌, ◌↔◌, IsNone, IfSom
 ghost use Rattle.ng_class.specs.Mask.{IsLowestBit, HasBitsTo, all_bits_of};
 
 /// The lowest bit that is set.
+#[tactic(auto, using(crate::proofs::Masks::lowest_trailing_zeros))]
 pub fn lowest_bit(mask: u32) -> Option<u32>
     ensures none { IsNone result ↔ (mask ≡ 0) }
     ensures lowest { IfSome result (IsLowestBit mask) }
@@ -15,6 +16,7 @@ pub fn lowest_bit(mask: u32) -> Option<u32>
 }
 
 /// The mask of the slots 0 to `last`.
+#[tactic(auto, using(crate::proofs::Masks::shifted_ones, crate::proofs::Masks::has_shifted_ones))]
 pub fn all_bits(last: u32) -> u32
     requires { last < 32 }
     ensures value { result ≡ all_bits_of last }

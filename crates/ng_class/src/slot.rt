@@ -7,7 +7,9 @@ use crate::class::{IB, LONE, UNIT, units};
 const PAGE: u64 = 4096;
 
 /// The bytes from the start of a slot to the start of the next, for a group of this class with the
-/// slots 0 to `last`, in a run of `maplen` pages (0 where the group has no run of its own).
+/// slots 0 to `last`, in a run of `maplen` pages (0 where the group has no run of its own). A slot
+/// that is alone in a run has all of it, but for 16 bytes; others have the class size.
+#[tactic(auto, using(crate::proofs::Slots::strides))]
 pub fn stride(class: u32, last: u32, maplen: u64) -> u64
     requires class { IsGroupClass class last maplen }
     requires last { last < 32 }
@@ -24,7 +26,9 @@ pub fn stride(class: u32, last: u32, maplen: u64) -> u64
     }
 }
 
-/// The bytes in which a block may begin, from the start of its slot on, header cell included.
+/// The bytes from the start of a slot on in which a block may be placed, for the same group: the
+/// stride, but for a class below 48 no more than the class size.
+#[tactic(auto, using(crate::proofs::Slots::rooms))]
 pub fn room(class: u32, last: u32, maplen: u64) -> u64
     requires class { IsGroupClass class last maplen }
     requires last { last < 32 }
@@ -49,7 +53,7 @@ pub fn slot_start(storage: u64, stride: u64, index: u32) -> u64
     storage + stride * u64::from(index)
 }
 
-/// The address after the slot's last byte, where the header cell of the next slot begins.
+/// The address after the slot's last byte, which is that of the next slot's header cell.
 pub fn slot_end(storage: u64, stride: u64, index: u32) -> u64
     requires stride { 16 ≤ stride }
     requires fits { storage + stride * index + stride < 2 ^ 64 }
