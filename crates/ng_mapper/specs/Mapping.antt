@@ -1,6 +1,6 @@
 -- What contracts see of a mapper: where its runs may lie, which runs live, and what it refused.
-use Rattle.std.specs.Prelude.{◌≡◌, ℕ, ◌+◌, ◌*◌, ◌%◌, ◌≤◌, List, ◌∷◌, max, All, AllPairs, IsPermutation}
-use Rattle.ng_terms.specs.Causes.{Rose}
+use Rattle.std.specs.Prelude.{◌≡◌, ℕ, ◌*◌, ◌%◌, ◌≤◌, List, max, All, AllPairs}
+use Rattle.ng_mapper.specs.declared.refusals.Refusals.{Refusals}
 use Rattle.ng_mapper.specs.Runs.{Run, AreApart, LiesIn}
 
 -- the bounds of all runs, in bytes, and the size of the space, in pages
@@ -22,19 +22,12 @@ pub record AreLaid (span : Span) (runs : List Run) : Type 0 where
   pub lie : All (LiesIn span.lower span.upper) runs
   pub apart : AllPairs AreApart runs
 
--- a run that may join those that live
+-- a run between the bounds that shares no byte with the others
 pub record IsFree (span : Span) (runs : List Run) (run : Run) : Type 0 where
   pub lies : LiesIn span.lower span.upper run
   pub apart : All (AreApart run) runs
 
--- how many map calls were refused, the pages that the last of them asked, and the most that one asked
-pub record Refusals : Type 0 where
-  pub count : ℕ
-  pub last : ℕ
-  pub most : ℕ
-
--- one call more was refused, which asked so many pages
-pub record Refuses (before now : Refusals) (pages : ℕ) : Type 0 where
-  pub rose : Rose before.count now.count
+-- the pages of one refused call more are told
+pub record NotesPages (before now : Refusals) (pages : ℕ) : Type 0 where
   pub last : now.last ≡ pages
   pub most : now.most ≡ max before.most pages

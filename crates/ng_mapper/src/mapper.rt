@@ -1,7 +1,10 @@
-ghost use Rattle.std.specs.Prelude.{◌≡◌, ℕ, ◌≤◌, ◌↔◌, List, ◌∷◌, IfOk, IfErr, IfSome, IsNone, OnOk, OnErr, Contains, IsPermutation, sum_by};
+ghost use Rattle.std.specs.Prelude.{◌≡◌, ◌≢◌, All, ◌≤◌, ◌↔◌, List, ◌∷◌, IfOk, IfErr, IfSome, IsNone, OnOk, OnErr, Contains, IsPermutation, sum_by};
 ghost use Rattle.ng_terms.specs.Causes.{HasCause};
+ghost use Rattle.ng_mapper.specs.declared.refusals.Refusals.{Refusals};
 ghost use Rattle.ng_mapper.specs.Runs.{Run};
-ghost use Rattle.ng_mapper.specs.Mapping.{Span, IsSpan, AreLaid, IsFree, Refusals, Refuses};
+ghost use Rattle.ng_mapper.specs.Mapping.{Span, IsSpan, AreLaid, IsFree, NotesPages};
+
+use crate::refusals::Refusals;
 
 /// A map call was refused.
 #[derive(Clone, Copy, Debug, PartialEq, Eq)]
@@ -39,7 +42,7 @@ pub trait Mapper {
 
         ensures cause { HasCause (refused self.old).count (refused self.new).count result }
         ensures number { IfErr result (λ error. error.number ≡ (refused self.new).count) }
-        ensures refuses { OnErr result (Refuses (refused self.old) (refused self.new) pages) }
+        ensures noted { OnErr result (NotesPages (refused self.old) (refused self.new) pages) }
         ensures kept { OnErr result (runs self.new ≡ runs self.old) }
 
         ensures constant { span self.new ≡ span self.old };
@@ -62,7 +65,7 @@ pub trait Mapper {
     /// The pages of the live run that begins at this address.
     fn run_at(&self, addr: u64) -> Option<u64>
         ensures some { IfSome result (λ pages. Contains (runs self.now) (addr, pages)) }
-        ensures none { IsNone result ↔ ((pages : ℕ) → ¬ Contains (runs self.now) (addr, pages)) };
+        ensures none { IsNone result ↔ All (λ run. run.0 ≢ addr) (runs self.now) };
 
     /// The bounds are page starts above the first page, in order and inside the space.
     ghost bounded: { (mapper : Self) → IsSpan (span mapper) };
