@@ -1,7 +1,8 @@
--- Live runs as a list in the order of their addresses. No public clause cites this module.
+-- Live runs in the order of their addresses, as `FirstFit` keeps them. No public clause cites this module.
 use Rattle.std.specs.Prelude.{ℕ, ◌+◌, ◌*◌, ◌<◌, ◌≤◌, List, length, slice_index_or, All, AllPairs}
+use Rattle.std.proofs.Common.{inl}
 use Rattle.ng_mapper.specs.Runs.{Run, run_end, LiesIn}
-use Rattle.ng_mapper.specs.Mapping.{Span}
+use Rattle.ng_mapper.specs.Mapping.{Span, AreLaid}
 
 -- the first run ends before the second begins
 abbrev pub EndsBefore : Run → Run → Type 0
@@ -11,6 +12,13 @@ EndsBefore a b = run_end a ≤ b.0
 pub record AreInOrder (span : Span) (runs : List Run) : Type 0 where
   pub lie : All (LiesIn span.lower span.upper) runs
   pub ordered : AllPairs EndsBefore runs
+
+-- runs in that order share no byte
+pub laid-ordered : (span : Span) (runs : List Run) → AreInOrder span runs → AreLaid span runs
+laid-ordered span runs are = record {
+  lie = are.lie;
+  apart = λ i j d before within. inl (are.ordered i j d before within);
+}
 
 -- the run of this index
 abbrev pub run_of : List Run → ℕ → Run

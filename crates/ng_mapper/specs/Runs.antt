@@ -1,5 +1,5 @@
 -- Runs of pages, and how they lie in a space.
-use Rattle.std.specs.Prelude.{◌≡◌, ℕ, ◌+◌, ◌*◌, ◌%◌, ◌≤◌, ◌⊎◌}
+use Rattle.std.specs.Prelude.{◌≡◌, ℕ, ◌+◌, ◌*◌, ◌%◌, ◌≤◌, ◌⊎◌, List, ◌∷◌, IsPermutation}
 
 -- the address at which a run begins, in bytes, and its pages
 abbrev pub Run : Type 0
@@ -19,3 +19,11 @@ pub record LiesIn (lower upper : ℕ) (run : Run) : Type 0 where
   pub above : lower ≤ run.0
   pub below : run_end run ≤ upper
   pub some : 1 ≤ run.1
+
+-- the runs are those of before and this one, in any order
+abbrev pub AddsRun : List Run → List Run → Run → Type 0
+AddsRun before now run = IsPermutation (run ∷ before) now
+
+-- the runs are those of before without this one, in any order
+abbrev pub RemovesRun : List Run → List Run → Run → Type 0
+RemovesRun before now run = IsPermutation before (run ∷ now)

@@ -1,9 +1,9 @@
-ghost use Rattle.std.specs.Prelude.{◌≡◌, ◌≤◌, ◌+◌, ◌-◌, ◌^◌, ◌↔◌, ◌⊎◌, [], ◌∷◌, min, IfOk, IfErr, IsErr, OnOk, OnErr, Contains, IsPermutation, vec_capacity};
-ghost use Rattle.std.proofs.Common.{inl};
+ghost use Rattle.std.specs.Prelude.{◌≡◌, ◌≤◌, ◌↔◌, [], IfOk, IfErr, IsErr, OnOk, OnErr, Contains, vec_capacity};
 ghost use Rattle.ng_terms.specs.Causes.{HasCause};
+ghost use Rattle.ng_mapper.specs.Runs.{AddsRun, RemovesRun};
 ghost use Rattle.ng_mapper.specs.Mapping.{IsSpan, IsFree, NotesPages};
 ghost use Rattle.ng_mapper.specs.Holes.{whole, IsLowest, HasNoHole};
-ghost use Rattle.ng_mapper.specs.InOrder.{AreInOrder};
+ghost use Rattle.ng_mapper.specs.InOrder.{AreInOrder, laid-ordered};
 
 use crate::hole::find_hole;
 use crate::mapper::{Mapper, Refused};
@@ -33,7 +33,7 @@ pub struct FirstFit {
 }
 
 impl FirstFit {
-    ghost use Rattle.ng_mapper.specs.FirstFit.{runs_of, span_of, refused_of, schedule_of};
+    ghost use Rattle.ng_mapper.specs.FirstFit.{runs_of, span_of, refused_of, none_refused, schedule_of, no_calls};
 
     /// A space of 16 to 16384 pages without a live run. `refuse` has the numbers, from 1, of the
     /// map calls to refuse.
@@ -42,8 +42,8 @@ impl FirstFit {
         requires greatest { pages ≤ 16384 }
         ensures runs { IfOk result (λ mapper. runs_of mapper ≡ []) }
         ensures span { IfOk result (λ mapper. span_of mapper ≡ whole pages) }
-        ensures refused { IfOk result (λ mapper. refused_of mapper ≡ record { count = 0; last = 0; most = 0 }) }
-        ensures schedule { IfOk result (λ mapper. schedule_of mapper ≡ record { calls = 0; listed = refuse.items }) }
+        ensures refused { IfOk result (λ mapper. refused_of mapper ≡ none_refused) }
+        ensures schedule { IfOk result (λ mapper. schedule_of mapper ≡ no_calls refuse.items) }
     {
         let Ok(runs) = Vec::with_capacity(alloc, pages as usize) else {
             return Err(Host);
@@ -64,7 +64,7 @@ impl FirstFit {
 }
 
 impl Mapper for FirstFit {
-    ghost use Rattle.ng_mapper.specs.FirstFit.{runs_of, span_of, refused_of, schedule_of, next_call, IsListed};
+    ghost use Rattle.ng_mapper.specs.FirstFit.{runs_of, span_of, refused_of, schedule_of, next_call, next_number, MustRefuse};
 
     ghost runs = { runs_of };
 
@@ -84,13 +84,13 @@ impl Mapper for FirstFit {
         requires { 1 ≤ pages }
         ensures free { IfOk result (λ at. IsFree (span_of self.old) (runs_of self.old) (at, pages)) }
         ensures lowest { IfOk result (IsLowest (span_of self.old) (runs_of self.old) pages) }
-        ensures mapped { IfOk result (λ at. IsPermutation ((at, pages) ∷ runs_of self.old) (runs_of self.new)) }
+        ensures mapped { IfOk result (λ at. AddsRun (runs_of self.old) (runs_of self.new) (at, pages)) }
         ensures calm { OnOk result (refused_of self.new ≡ refused_of self.old) }
 
-        // A call is refused where its number is listed, and where no hole fits.
-        ensures exactly { IsErr result ↔ (IsListed (schedule_of self.old) ⊎ HasNoHole (span_of self.old) (runs_of self.old) pages) }
+        // A call is refused where its number is listed or no hole fits, and nowhere else.
+        ensures exactly { IsErr result ↔ MustRefuse self.old pages }
         ensures cause { HasCause (refused_of self.old).count (refused_of self.new).count result }
-        ensures by_one { OnErr result ((refused_of self.new).count ≡ min ((refused_of self.old).count + 1) (2 ^ 64 - 1)) }
+        ensures by_one { OnErr result ((refused_of self.new).count ≡ next_number (refused_of self.old).count) }
         ensures number { IfErr result (λ error. error.number ≡ (refused_of self.new).count) }
         ensures noted { OnErr result (NotesPages (refused_of self.old) (refused_of self.new) pages) }
         ensures kept { OnErr result (runs_of self.new ≡ runs_of self.old) }
@@ -112,7 +112,7 @@ impl Mapper for FirstFit {
 
     fn unmap(&mut self, addr: u64, pages: u64)
         requires { Contains (runs_of self.old) (addr, pages) }
-        ensures unmapped { IsPermutation (runs_of self.old) ((addr, pages) ∷ runs_of self.new) }
+        ensures unmapped { RemovesRun (runs_of self.old) (runs_of self.new) (addr, pages) }
         ensures calm { refused_of self.new ≡ refused_of self.old }
         ensures constant { span_of self.new ≡ span_of self.old }
         ensures schedule { schedule_of self.new ≡ schedule_of self.old }
@@ -132,16 +132,11 @@ impl Mapper for FirstFit {
     }
 
     fn run_at(&self, addr: u64) -> Option<u64> {
-        match run_index(&self.runs, addr) {
-            Some(k) => Some(self.runs[k].1),
-            None => None,
-        }
+        let k = run_index(&self.runs, addr)?;
+        Some(self.runs[k].1)
     }
 
     ghost bounded = { λ mapper. mapper.bounded };
 
-    ghost laid = { λ mapper. record {
-      lie = mapper.ordered.lie;
-      apart = λ i j d before within. inl (mapper.ordered.ordered i j d before within);
-    } };
+    ghost laid = { λ mapper. laid-ordered (span_of mapper) (runs_of mapper) mapper.ordered };
 }

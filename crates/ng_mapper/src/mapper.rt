@@ -1,7 +1,7 @@
 ghost use Rattle.std.specs.Prelude.{◌≡◌, ◌≢◌, All, ◌≤◌, ◌↔◌, List, ◌∷◌, IfOk, IfErr, IfSome, IsNone, OnOk, OnErr, Contains, IsPermutation, sum_by};
 ghost use Rattle.ng_terms.specs.Causes.{HasCause};
 ghost use Rattle.ng_mapper.specs.declared.refusals.Refusals.{Refusals};
-ghost use Rattle.ng_mapper.specs.Runs.{Run};
+ghost use Rattle.ng_mapper.specs.Runs.{Run, AddsRun, RemovesRun};
 ghost use Rattle.ng_mapper.specs.Mapping.{Span, IsSpan, AreLaid, IsFree, NotesPages};
 
 use crate::refusals::Refusals;
@@ -37,7 +37,7 @@ pub trait Mapper {
     fn map(&mut self, pages: u64) -> Result<u64, Refused>
         requires { 1 ≤ pages }
         ensures free { IfOk result (λ at. IsFree (span self.old) (runs self.old) (at, pages)) }
-        ensures mapped { IfOk result (λ at. IsPermutation ((at, pages) ∷ runs self.old) (runs self.new)) }
+        ensures mapped { IfOk result (λ at. AddsRun (runs self.old) (runs self.new) (at, pages)) }
         ensures calm { OnOk result (refused self.new ≡ refused self.old) }
 
         ensures cause { HasCause (refused self.old).count (refused self.new).count result }
@@ -50,7 +50,7 @@ pub trait Mapper {
     /// Takes a live run back.
     fn unmap(&mut self, addr: u64, pages: u64)
         requires { Contains (runs self.old) (addr, pages) }
-        ensures unmapped { IsPermutation (runs self.old) ((addr, pages) ∷ runs self.new) }
+        ensures unmapped { RemovesRun (runs self.old) (runs self.new) (addr, pages) }
         ensures calm { refused self.new ≡ refused self.old }
         ensures constant { span self.new ≡ span self.old };
 

@@ -1,6 +1,6 @@
-ghost use Rattle.std.specs.Prelude.{◌≡◌, ◌≢◌, ◌<◌, ◌≤◌, insert, length, vec_len, vec_capacity, sum_by, All, IfSome, IfNone, IsTrue, ◌↔◌, Contains};
+ghost use Rattle.std.specs.Prelude.{◌≡◌, ◌≢◌, ◌<◌, ◌≤◌, insert, length, vec_len, vec_capacity, sum_by, All, AllPairs, IfSome, IfNone, IsTrue, ◌↔◌, Contains};
 ghost use Rattle.ng_mapper.specs.Holes.{whole};
-ghost use Rattle.ng_mapper.specs.InOrder.{AreInOrder, run_of};
+ghost use Rattle.ng_mapper.specs.InOrder.{AreInOrder, EndsBefore, run_of};
 
 /// An insert for which there is room.
 pub fn insert_run(runs: &mut Vec<(u64, u64)>, next: usize, run: (u64, u64))
@@ -14,11 +14,12 @@ pub fn insert_run(runs: &mut Vec<(u64, u64)>, next: usize, run: (u64, u64))
 
 /// The index of the run that begins at an address.
 pub fn run_index(runs: &[(u64, u64)], addr: u64) -> Option<usize>
+    requires { AllPairs EndsBefore runs.now }
     ensures within { IfSome result (λ k. k < length runs.now) }
     ensures begins { IfSome result (λ k. (run_of runs.now k).0 ≡ addr) }
     ensures none { IfNone result (All (λ run. run.0 ≢ addr) runs.now) }
 {
-    runs.iter().position(|run| run.0 == addr)
+    runs.binary_search_by_key(&addr, |&(at, _)| at).ok()
 }
 
 /// Whether a number is in the list.
