@@ -1,5 +1,5 @@
 -- What contracts see of a `FirstFit` beside what they see of every mapper.
-use Rattle.std.specs.Prelude.{ℕ, ◌+◌, ◌-◌, ◌^◌, ◌⊎◌, List, min, Contains}
+use Rattle.std.specs.Prelude.{◌≡◌, ℕ, ◌+◌, ◌-◌, ◌^◌, ◌⊎◌, List, min, Contains}
 use Rattle.ng_mapper.specs.declared.first_fit.FirstFit.{FirstFit}
 use Rattle.ng_mapper.specs.declared.refusals.Refusals.{Refusals}
 use Rattle.ng_mapper.specs.Runs.{Run}
@@ -39,11 +39,15 @@ no_calls listed = record { calls = 0; listed = listed }
 abbrev pub next_number : ℕ → ℕ
 next_number number = min (number + 1) (2 ^ 64 - 1)
 
+-- one refusal more
+abbrev pub CountsOne : Refusals → Refusals → Type 0
+CountsOne before now = now.count ≡ next_number before.count
+
 -- the schedule once one call more was made
 abbrev pub next_call : Schedule → Schedule
 next_call schedule = record { calls = next_number schedule.calls; listed = schedule.listed }
 
 -- the next map call is listed, or no hole has so many pages
 abbrev pub MustRefuse : FirstFit → ℕ → Type 0
-MustRefuse mapper pages =
-    Contains mapper.refuse.items (next_number mapper.calls) ⊎ HasNoHole (span_of mapper) (runs_of mapper) pages
+MustRefuse mapper pages = Contains mapper.refuse.items (next_number mapper.calls)
+    ⊎ HasNoHole (span_of mapper) (runs_of mapper) pages

@@ -1,4 +1,4 @@
--- Live runs in the order of their addresses, as `FirstFit` keeps them. No public clause cites this module.
+-- Runs in the order of their addresses, as `FirstFit` keeps them. No public clause cites this module.
 use Rattle.std.specs.Prelude.{ℕ, ◌+◌, ◌*◌, ◌<◌, ◌≤◌, List, length, slice_index_or, All, AllPairs}
 use Rattle.std.proofs.Common.{inl}
 use Rattle.ng_mapper.specs.Runs.{Run, run_end, LiesIn}

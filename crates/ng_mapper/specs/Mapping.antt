@@ -27,7 +27,7 @@ pub record IsFree (span : Span) (runs : List Run) (run : Run) : Type 0 where
   pub lies : LiesIn span.lower span.upper run
   pub apart : All (AreApart run) runs
 
--- the pages of one refused call more are told
-pub record NotesPages (before now : Refusals) (pages : ℕ) : Type 0 where
+-- the last and the most refused pages after one refusal more, of so many pages
+pub record Notes (before now : Refusals) (pages : ℕ) : Type 0 where
   pub last : now.last ≡ pages
   pub most : now.most ≡ max before.most pages

@@ -1,7 +1,7 @@
 ghost use Rattle.std.specs.Prelude.{◌≡◌, ◌≤◌, ◌↔◌, [], IfOk, IfErr, IsErr, OnOk, OnErr, Contains, vec_capacity};
 ghost use Rattle.ng_terms.specs.Causes.{HasCause};
 ghost use Rattle.ng_mapper.specs.Runs.{AddsRun, RemovesRun};
-ghost use Rattle.ng_mapper.specs.Mapping.{IsSpan, IsFree, NotesPages};
+ghost use Rattle.ng_mapper.specs.Mapping.{IsSpan, IsFree, Notes};
 ghost use Rattle.ng_mapper.specs.Holes.{whole, IsLowest, HasNoHole};
 ghost use Rattle.ng_mapper.specs.InOrder.{AreInOrder, laid-ordered};
 
@@ -17,11 +17,14 @@ use std::alloc::Global;
 pub struct FirstFit {
     /// The live runs in the order of their addresses.
     runs: Vec<(u64, u64)>,
+    /// The size of the space.
     pages: u32,
+    /// The numbers, from 1, of the map calls to refuse.
     refuse: Vec<u64>,
+    /// How many map calls were made.
     calls: u64,
     refused: Refusals,
-    /// So many pages fit nowhere.
+    /// No hole has so many pages, so that such a call is refused without a walk over the runs.
     too_many: u64,
     ghost least: { 16 ≤ pages },
     ghost greatest: { pages ≤ 16384 },
@@ -64,7 +67,7 @@ impl FirstFit {
 }
 
 impl Mapper for FirstFit {
-    ghost use Rattle.ng_mapper.specs.FirstFit.{runs_of, span_of, refused_of, schedule_of, next_call, next_number, MustRefuse};
+    ghost use Rattle.ng_mapper.specs.FirstFit.{runs_of, span_of, refused_of, schedule_of, next_call, CountsOne, MustRefuse};
 
     ghost runs = { runs_of };
 
@@ -82,17 +85,19 @@ impl Mapper for FirstFit {
 
     fn map(&mut self, pages: u64) -> Result<u64, Refused>
         requires { 1 ≤ pages }
-        ensures free { IfOk result (λ at. IsFree (span_of self.old) (runs_of self.old) (at, pages)) }
+        ensures free { IfOk result (λ at.
+            IsFree (span_of self.old) (runs_of self.old) (at, pages)) }
         ensures lowest { IfOk result (IsLowest (span_of self.old) (runs_of self.old) pages) }
-        ensures mapped { IfOk result (λ at. AddsRun (runs_of self.old) (runs_of self.new) (at, pages)) }
+        ensures mapped { IfOk result (λ at.
+            AddsRun (runs_of self.old) (runs_of self.new) (at, pages)) }
         ensures calm { OnOk result (refused_of self.new ≡ refused_of self.old) }
 
         // A call is refused where its number is listed or no hole fits, and nowhere else.
         ensures exactly { IsErr result ↔ MustRefuse self.old pages }
         ensures cause { HasCause (refused_of self.old).count (refused_of self.new).count result }
-        ensures by_one { OnErr result ((refused_of self.new).count ≡ next_number (refused_of self.old).count) }
+        ensures by_one { OnErr result (CountsOne (refused_of self.old) (refused_of self.new)) }
         ensures number { IfErr result (λ error. error.number ≡ (refused_of self.new).count) }
-        ensures noted { OnErr result (NotesPages (refused_of self.old) (refused_of self.new) pages) }
+        ensures noted { OnErr result (Notes (refused_of self.old) (refused_of self.new) pages) }
         ensures kept { OnErr result (runs_of self.new ≡ runs_of self.old) }
 
         ensures constant { span_of self.new ≡ span_of self.old }

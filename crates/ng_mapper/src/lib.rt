@@ -10,3 +10,6 @@ mod run_list;
 pub use first_fit::FirstFit;
 pub use mapper::{Mapper, Refused};
 pub use refusals::Refusals;
+
+#[cfg(test)]
+mod tests;

@@ -2,7 +2,7 @@ ghost use Rattle.std.specs.Prelude.{◌≡◌, ◌≢◌, All, ◌≤◌, ◌↔
 ghost use Rattle.ng_terms.specs.Causes.{HasCause};
 ghost use Rattle.ng_mapper.specs.declared.refusals.Refusals.{Refusals};
 ghost use Rattle.ng_mapper.specs.Runs.{Run, AddsRun, RemovesRun};
-ghost use Rattle.ng_mapper.specs.Mapping.{Span, IsSpan, AreLaid, IsFree, NotesPages};
+ghost use Rattle.ng_mapper.specs.Mapping.{Span, IsSpan, AreLaid, IsFree, Notes};
 
 use crate::refusals::Refusals;
 
@@ -42,7 +42,7 @@ pub trait Mapper {
 
         ensures cause { HasCause (refused self.old).count (refused self.new).count result }
         ensures number { IfErr result (λ error. error.number ≡ (refused self.new).count) }
-        ensures noted { OnErr result (NotesPages (refused self.old) (refused self.new) pages) }
+        ensures noted { OnErr result (Notes (refused self.old) (refused self.new) pages) }
         ensures kept { OnErr result (runs self.new ≡ runs self.old) }
 
         ensures constant { span self.new ≡ span self.old };
