@@ -1,13 +1,11 @@
 -- Hexadecimal digits, read one by one.
-use Rattle.std.proofs.Common.{◌≡◌, ℕ, ◌+◌, ◌*◌, ◌^◌, ◌<◌, ◌≤◌, ◌⊎◌, List, length, take, get_or, Bool, true, false, Option, Some, None, refl, sym, ap, ◌∙◌, arith, ◌&&◌, leb, eqb, ⊎_elim, cond}
+use Rattle.std.proofs.Common.{◌≡◌, ℕ, ◌+◌, ◌*◌, ◌^◌, ◌<◌, ◌≤◌, ◌⊎◌, List, length, take, get_or, Bool, true, false, Option, Some, None, refl, ◌∙◌, arith, ◌&&◌, leb, eqb, ⊎_elim, cond}
 use Rattle.std.specs.List.{list_all}
 use Rattle.std.specs.Char.{is_digit, digit_value}
 use Rattle.std.specs.Str.Parse.{digits_value}
-use Rattle.std.proofs.lemmas.Bool.{cases_Bool, leb-true}
 use Rattle.std.proofs.lemmas.Bool.Decides.{nat_tests}
 use Rattle.std.proofs.lemmas.List.{take_all}
 use Rattle.std.proofs.lemmas.List.Folds.{list_all_more, list_all_at}
-use Rattle.std.proofs.lemmas.Int.Digits.{digits_value_more}
 use Rattle.std.proofs.Math.Nat.{pow-le-pow_right, mul_comm}
 use Rattle.std.proofs.lemmas.Nat.{pow-add}
 use Rattle.ng_mtrace.specs.Numbers.{number_of}

@@ -1,8 +1,8 @@
 -- The first form of a text, and what was read of an input.
 use Rattle.std.specs.Prelude.{codes, IfOk, IfSome, IfNone, Result, Ok, Err}
-use Rattle.std.proofs.Common.{◌≡◌, ℕ, ◌≤◌, ◌<◌, List, [], ◌∷◌, ◌++◌, length, map, take, drop, Option, Some, None, refl, sym, ap, ◌∙◌, arith, inl, inr}
+use Rattle.std.proofs.Common.{◌≡◌, ℕ, ◌≤◌, ◌<◌, List, [], ◌∷◌, ◌++◌, length, take, Option, Some, None, refl, sym, ap, ◌∙◌, arith, inl, inr}
 use Rattle.std.proofs.lemmas.List.{take-append-drop, length-take}
-use Rattle.ng_mtrace.specs.Streams.{put_back, taken, AtEnd, MoreThan}
+use Rattle.ng_mtrace.specs.Streams.{taken, MoreThan}
 use Rattle.ng_mtrace.specs.Text.{parts_at, parts_of, tokens_of}
 use Rattle.ng_mtrace.specs.FirstForm.{line_of, line_from, IsFirstForm, ReadsOther}
 use Rattle.ng_mtrace.specs.FirstBody.{IsBody}
@@ -53,7 +53,7 @@ empty_parts = refl
 
 -- of an input that is too long, one byte more than the form has was read
 pub other-long : (before now : Option (List ℕ)) → MoreThan 1048576 before → now ≡ taken 1048577 before → ReadsOther before now
-other-long (Some bytes) now more read = 
+other-long (Some bytes) now more read =
     let long : length (take 1048577 bytes) ≡ 1048577 = omega (arith, length-take 1048577 bytes) in
     record {
       bytes = take 1048577 bytes;

@@ -1,8 +1,8 @@
 -- Parts of a text, cut off one by one.
 use Rattle.std.specs.Prelude.{position}
-use Rattle.std.proofs.Common.{◌≡◌, ℕ, suc, ◌+◌, ◌-◌, ◌<◌, ◌≤◌, ◌==◌, Bool, true, false, List, [], ◌∷◌, ◌++◌, length, take, drop, get_or, Option, Some, None, refl, sym, ap, ◌∙◌, arith, ltb, cond, ⊎_elim}
+use Rattle.std.proofs.Common.{◌≡◌, ℕ, suc, ◌+◌, ◌-◌, ◌<◌, ◌≤◌, ◌==◌, Bool, true, false, List, [], ◌∷◌, ◌++◌, length, take, drop, get_or, Some, None, refl, sym, ap, ◌∙◌, arith, ltb, ⊎_elim}
 use Rattle.std.specs.List.{slice_split, All, position_or_len, join_with_byte}
-use Rattle.std.proofs.lemmas.Bool.{cases_Bool, eqb-true, eq-eqb}
+use Rattle.std.proofs.lemmas.Bool.{cases_Bool}
 use Rattle.std.proofs.lemmas.Bool.Decides.{nat_tests}
 use Rattle.std.proofs.lemmas.List.{nil_from_length, take_all, take-append-drop, length-drop, length-take, get_or-take}
 use Rattle.std.proofs.Math.Seq.{drop-cons}
@@ -40,8 +40,8 @@ unfolding parts_at
 parts_at-some cut text at found =
     let first : (at < length text) × ((get_or text at 0 == cut) ≡ true) × ((k : ℕ) → k < at → (get_or text k 0 == cut) ≡ false) = position-Some (λ byte. byte == cut) text at 0 found in
     let before : All (λ byte. (byte == cut) ≡ false) (take at text) = All-from_get_or (λ byte. (byte == cut) ≡ false) (take at text) 0 (λ k within.
-        let below : k < at = omega (arith, length-take at text) in
-        rw (get_or-take at text k 0 below) (first.2 k below)) in
+    let below : k < at = omega (arith, length-take at text) in
+    rw (get_or-take at text k 0 below) (first.2 k below)) in
     ap (λ bytes. slice_split (λ byte. byte == cut) bytes) (whole_from text at first.0) ∙ slice_split_at (λ byte. byte == cut) (take at text) (get_or text at 0) (drop (at + 1) text) before first.1
 
 -- the same, as a slice from that place on has it

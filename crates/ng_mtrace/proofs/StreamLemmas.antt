@@ -3,7 +3,7 @@ use Rattle.std.specs.Prelude.{Option, Some, None}
 use Rattle.std.proofs.Common.{◌≡◌, ℕ, ◌+◌, ◌-◌, List, ◌++◌, length, take, drop, refl, ap, sym, append_assoc, arith}
 use Rattle.std.proofs.lemmas.List.{take_all, take_at, take-append-drop, drop-drop, length-drop}
 use Rattle.std.proofs.Math.Seq.{take-add}
-use Rattle.ng_mtrace.specs.Streams.{put_back, added}
+use Rattle.ng_mtrace.specs.Streams.{added}
 
 pub added-added : (written : Option (List ℕ)) (a b : List ℕ) → added (added written a) b ≡ added written (a ++ b)
 added-added (Some written) a b = ap Some (append_assoc written a b)

@@ -1,12 +1,12 @@
 -- The first form of an input: one section of `+` and `-` lines, with single spaces.
-use Rattle.std.specs.Prelude.{◌≡◌, ◌≤◌, ℕ, List, [], ◌∷◌, ◌++◌, ◌==◌, length, map, codes, Option, Some, None, option_and_then, if◌then◌else◌, ◌⊎◌}
+use Rattle.std.specs.Prelude.{◌≡◌, ◌≤◌, ◌<◌, ℕ, List, [], ◌∷◌, ◌++◌, ◌==◌, length, map, codes, Option, Some, None, option_and_then, if◌then◌else◌, ◌⊎◌}
 use Rattle.std.specs.Option.{option_map}
 use Rattle.std.specs.Str.{bytes_eq}
 use Rattle.ng_mtrace.specs.Numbers.{hex_of}
 use Rattle.ng_mtrace.specs.Streams.{put_back, AtEnd}
 use Rattle.ng_mtrace.specs.Text.{parts_of, tokens_of}
 use Rattle.ng_mtrace.specs.declared.log.Line.{Line}
-use Rattle.ng_mtrace.specs.declared.log.Line.TheVariants.{Make, End}
+use Rattle.ng_mtrace.specs.declared.log.Line.TheVariants.{Make, End, Move}
 use Rattle.ng_mtrace.specs.declared.log.Log.{Log}
 
 -- the pointer that a token writes, which isn't 0
@@ -15,13 +15,22 @@ name_of token = option_and_then (λ name. if name == 0 then None else Some name)
 
 -- `-` and a pointer
 abbrev pub end_of : List ℕ → List ℕ → Option Line
-end_of sign ptr = if bytes_eq sign (codes "-") then option_map (λ name. End name) (name_of ptr) else None
+end_of sign ptr =
+    if bytes_eq sign (codes "-") then option_map (λ name. End name) (name_of ptr)
+    else None
 
--- `+`, a pointer and a size
+-- `+`, a pointer and a size, which may be 0
 abbrev pub make_of : List ℕ → List ℕ → List ℕ → Option Line
 make_of sign ptr size =
-    if bytes_eq sign (codes "+") then option_and_then (λ name. option_map (λ n. Make name n) (hex_of size)) (name_of ptr)
+    if bytes_eq sign (codes "+")
+    then option_and_then (λ name. option_map (λ n. Make name n) (hex_of size)) (name_of ptr)
     else None
+
+-- a make or an end, of a pointer that isn't 0
+abbrev pub IsPlain : Line → Type 0
+IsPlain (Make name size) = 0 < name
+IsPlain (End name) = 0 < name
+IsPlain (Move old name size) = ⊥
 
 -- the line that these tokens write
 abbrev pub line_from : List (List ℕ) → Option Line
@@ -33,7 +42,8 @@ line_from tokens = None
 abbrev pub line_of : List ℕ → Option Line
 line_of text = line_from (tokens_of text)
 
--- a text in the first form, with these lines between its two marks
+-- a text in the first form: at most 1,048,576 bytes, each line with its line feed, and these lines
+-- between the two marks
 pub record IsFirstForm (text : List ℕ) (lines : List Line) : Type 0 where
   pub short : length text ≤ 1048576
   pub texts : List (List ℕ)
@@ -53,7 +63,7 @@ pub record ReadsFirst (before now : Option (List ℕ)) (logs : List Log) : Type 
   pub form : IsFirstForm bytes lines
   pub one : logs ≡ one_log lines
 
--- what was read, the whole rest of an input or one byte more than the form has, isn't in the first form
+-- what was read, the whole rest of an input or one byte more than the most, isn't in the first form
 pub record ReadsOther (before now : Option (List ℕ)) : Type 0 where
   pub bytes : List ℕ
   pub taken : before ≡ put_back bytes now

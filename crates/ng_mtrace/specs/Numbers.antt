@@ -6,7 +6,8 @@ use Rattle.std.specs.Str.Parse.{digits_value}
 
 -- 1 to 16 hexadecimal digits, of either case
 abbrev pub is_hex : List ℕ → Bool
-is_hex digits = nat_le 1 (length digits) && nat_le (length digits) 16 && list_all (λ byte. is_digit byte 16) digits
+is_hex digits =
+    nat_le 1 (length digits) && nat_le (length digits) 16 && list_all (λ byte. is_digit byte 16) digits
 
 -- the number that 1 to 16 hexadecimal digits write
 unfoldable pub number_of : List ℕ → Option ℕ

@@ -6,7 +6,7 @@ use Rattle.std.specs.List.{slice_split}
 unfoldable pub parts_at : ℕ → List ℕ → List (List ℕ)
 parts_at cut text = slice_split (λ byte. byte == cut) text
 
--- the parts of a text round its line feeds: its lines, and then what stands behind the last line feed
+-- the parts of a text round its line feeds: its lines, and then what stands behind the last one
 abbrev pub parts_of : List ℕ → List (List ℕ)
 parts_of text = parts_at 10 text
 

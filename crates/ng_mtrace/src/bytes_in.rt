@@ -19,16 +19,29 @@ pub struct BytesIn {
 impl Model for BytesIn {
     ghost Value = { Feed };
 
-    ghost view = { λ s. record { left = drop s.at s.bytes.items; step = s.step; failing = s.failing.items; calls = s.calls; faults = s.faults } };
+    ghost view = { λ s. record {
+      left = drop s.at s.bytes.items;
+      step = s.step;
+      failing = s.failing.items;
+      calls = s.calls;
+      faults = s.faults;
+    } };
 
     ghost invariant = { λ s. (s.at ≤ vec_len s.bytes) × (1 ≤ s.step) };
 }
 
 impl BytesIn {
-    /// A source of these bytes. A read gives at most `step` of them, and fails if its number, from 1, is in `failing`.
+    /// A source of these bytes. A read gives at most `step` of them, and fails where its number,
+    /// from 1, is in `failing`.
     pub fn new(bytes: Vec<u8>, step: usize, failing: Vec<u64>) -> BytesIn
         requires { 1 ≤ step }
-        ensures { result ≡ record { left = bytes.items; step = step; failing = failing.items; calls = 0; faults = 0 } }
+        ensures { result ≡ record {
+          left = bytes.items;
+          step = step;
+          failing = failing.items;
+          calls = 0;
+          faults = 0;
+        } }
     {
         BytesIn {
             bytes,
@@ -53,13 +66,16 @@ impl Source for BytesIn {
         ensures end { IfOk result (λ count. count ≡ 0 → self.new.left ≡ []) }
         ensures step { IfOk result (λ count. count ≤ self.old.step) }
 
-        // It fails exactly where the call's number is listed.
-        ensures listed { IsErr result ↔ Contains self.old.failing (next_call self.old.calls) }
+        ensures failed { IsErr result ↔ Contains self.old.failing (next_call self.old.calls) }
         ensures err { OnErr result (self.new.left ≡ self.old.left) }
         ensures cause { HasCause self.old.faults self.new.faults result }
 
         ensures faultless { OnOk result (self.new.faults ≡ self.old.faults) }
-        ensures kept { self.new ≡ record self.old { left = self.new.left; calls = next_call self.old.calls; faults = self.new.faults } }
+        ensures kept { self.new ≡ record self.old {
+          left = self.new.left;
+          calls = next_call self.old.calls;
+          faults = self.new.faults;
+        } }
     {
         self.calls = self.calls.saturating_add(1);
         if self.failing.contains(&self.calls) {

@@ -1,4 +1,4 @@
-ghost use Rattle.std.specs.Prelude.{◌≡◌, ◌<◌, ◌≤◌, ◌↔◌, ◌⊎◌, [], ◌++◌, length, take, Some, vec_len, vec_capacity, Contains, IfOk, IsErr, OnOk, OnErr};
+ghost use Rattle.std.specs.Prelude.{◌≡◌, ◌-◌, ◌<◌, ◌≤◌, ◌↔◌, ◌⊎◌, [], ◌++◌, length, take, Some, vec_len, vec_capacity, Contains, min, IfOk, IsErr, OnOk, OnErr};
 ghost use Rattle.ng_mtrace.specs.InMemory.{Store, next_call};
 ghost use Rattle.ng_terms.specs.Causes.{HasCause};
 
@@ -20,15 +20,28 @@ pub struct BytesOut {
 impl Model for BytesOut {
     ghost Value = { Store };
 
-    ghost view = { λ s. record { written = s.bytes.items; room = s.room; failing = s.failing.items; calls = s.calls; faults = s.faults } };
+    ghost view = { λ s. record {
+      written = s.bytes.items;
+      room = s.room;
+      failing = s.failing.items;
+      calls = s.calls;
+      faults = s.faults;
+    } };
 
     ghost invariant = { λ s. (s.room ≤ vec_capacity s.bytes) × (vec_len s.bytes ≤ s.room) };
 }
 
 impl BytesOut {
-    /// A sink that holds at most `room` bytes. A write fails if its number, from 1, is in `failing`.
+    /// A sink with room for so many bytes. A write takes what fits, and fails where its number,
+    /// from 1, is in `failing` or no room is left.
     pub fn new(alloc: Global, room: usize, failing: Vec<u64>) -> Result<BytesOut, Host>
-        ensures { IfOk result (λ out. out ≡ record { written = []; room = room; failing = failing.items; calls = 0; faults = 0 }) }
+        ensures { IfOk result (λ out. out ≡ record {
+          written = [];
+          room = room;
+          failing = failing.items;
+          calls = 0;
+          faults = 0;
+        }) }
     {
         let Ok(bytes) = Vec::with_capacity(alloc, room) else {
             return Err(Host);
@@ -59,15 +72,22 @@ impl Sink for BytesOut {
         requires { 0 < length bytes.now }
         ensures some { IfOk result (λ count. 1 ≤ count) }
         ensures within { IfOk result (λ count. count ≤ length bytes.now) }
-        ensures bytes { IfOk result (λ count. self.new.written ≡ self.old.written ++ take count bytes.now) }
+        ensures count { IfOk result
+            (λ count. count ≡ min (self.old.room - length self.old.written) (length bytes.now)) }
+        ensures bytes { IfOk result
+            (λ count. self.new.written ≡ self.old.written ++ take count bytes.now) }
 
-        // It fails exactly where the call's number is listed or no room is left.
-        ensures listed { IsErr result ↔ (Contains self.old.failing (next_call self.old.calls) ⊎ (length self.old.written ≡ self.old.room)) }
+        ensures failed { IsErr result ↔ (Contains self.old.failing (next_call self.old.calls)
+            ⊎ (length self.old.written ≡ self.old.room)) }
         ensures err { OnErr result (self.new.written ≡ self.old.written) }
         ensures cause { HasCause self.old.faults self.new.faults result }
 
         ensures faultless { OnOk result (self.new.faults ≡ self.old.faults) }
-        ensures kept { self.new ≡ record self.old { written = self.new.written; calls = next_call self.old.calls; faults = self.new.faults } }
+        ensures kept { self.new ≡ record self.old {
+          written = self.new.written;
+          calls = next_call self.old.calls;
+          faults = self.new.faults;
+        } }
     {
         self.calls = self.calls.saturating_add(1);
         let left = self.room - self.bytes.len();

@@ -24,12 +24,13 @@ pub enum FirstFault {
     Host,
 }
 
-/// Reads an input in the first form to its end: one section of `+` and `-` lines, with single spaces.
+/// Reads an input in the first form to its end: one section of `+` and `-` lines.
 pub fn read_first<I: Source>(alloc: Global, input: &mut I) -> Result<Logs, FirstFault>
     ensures ok { IfOk result (λ logs. ReadsFirst (I.left input.old) (I.left input.new) logs.logs) }
 
     ensures read { result ≡ Err FirstFault.Read → Rose (I.faults input.old) (I.faults input.new) }
-    ensures other { result ≡ Err FirstFault.NotFirst → ReadsOther (I.left input.old) (I.left input.new) }
+    ensures not_first { result ≡ Err FirstFault.NotFirst
+        → ReadsOther (I.left input.old) (I.left input.new) }
 
     ensures later { I.faults input.old ≤ I.faults input.new }
 {

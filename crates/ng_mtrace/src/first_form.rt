@@ -14,7 +14,8 @@ use std::alloc::Global;
 pub fn first_lines(alloc: Global, text: &[u8]) -> Result<Option<Vec<Line>>, Host>
     requires { length text.now ≤ 1048576 }
     ensures some { IfOk result (λ found. IfSome found (λ lines. IsFirstForm text.now lines.items)) }
-    ensures none { IfOk result (λ found. IfNone found ((lines : List Line) → ¬ IsFirstForm text.now lines)) }
+    ensures none { IfOk result (λ found. IfNone found
+        ((lines : List Line) → ¬ IsFirstForm text.now lines)) }
 {
     let Some((first, body)) = cut_at(text, b'\n') else {
         return Ok(None);
@@ -27,8 +28,10 @@ pub fn first_lines(alloc: Global, text: &[u8]) -> Result<Option<Vec<Line>>, Host
 
 /// The lines up to the mark of the end, which is the last line.
 fn body_lines(alloc: Global, body: &[u8]) -> Result<Option<Vec<Line>>, Host>
-    ensures some { IfOk result (λ found. IfSome found (λ lines. IsBody (parts_of body.now) lines.items)) }
-    ensures none { IfOk result (λ found. IfNone found ((lines : List Line) → ¬ IsBody (parts_of body.now) lines)) }
+    ensures some { IfOk result (λ found. IfSome found
+        (λ lines. IsBody (parts_of body.now) lines.items)) }
+    ensures none { IfOk result (λ found. IfNone found
+        ((lines : List Line) → ¬ IsBody (parts_of body.now) lines)) }
 {
     let mut lines = Vec::new(alloc);
     let mut rest = body;

@@ -25,3 +25,6 @@ pub use output::Output;
 pub use reading::{ReadFault, read_whole};
 pub use stream::{Failed, Sink, Source};
 pub use writing::write_all;
+
+#[cfg(test)]
+mod tests;

@@ -1,6 +1,6 @@
 use crate::items::Items;
 
-/// A line of a log: a block is made, ended, or moved to another pointer. A pointer is the name of its block.
+/// A line of a log: a block is made, ended, or moved. Its pointer in the log is the block's name.
 #[derive(Clone, Copy, Debug, PartialEq, Eq)]
 pub enum Line {
     Make { name: u64, size: u64 },

@@ -1,10 +1,11 @@
-ghost use Rattle.std.specs.Prelude.{◌≡◌, ◌<◌, ◌≤◌, MatchOption};
+ghost use Rattle.std.specs.Prelude.{◌≡◌, ◌<◌, ◌≤◌, IfSome, MatchOption};
 ghost use Rattle.std.specs.Char.{digit_value};
 ghost use Rattle.ng_mtrace.specs.Numbers.{number_of, hex_of};
 
 /// The value of a hexadecimal digit of either case.
 fn digit(byte: u8) -> Option<u8>
-    ensures { MatchOption result (16 ≤ digit_value byte) (λ d. (d ≡ digit_value byte) × (d < 16)) }
+    ensures value { MatchOption result (16 ≤ digit_value byte) (λ d. d ≡ digit_value byte) }
+    ensures small { IfSome result (λ d. d < 16) }
 {
     match byte {
         b'0'..=b'9' => Some(byte - b'0'),

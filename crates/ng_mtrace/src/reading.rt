@@ -1,4 +1,4 @@
-ghost use Rattle.std.specs.Prelude.{◌≡◌, ◌+◌, ◌^◌, ◌<◌, ◌≤◌, IfOk, OnOk, Err, vec_len};
+ghost use Rattle.std.specs.Prelude.{◌≡◌, ◌+◌, ◌<◌, ◌≤◌, IfOk, OnOk, Err, vec_len};
 ghost use Rattle.ng_mtrace.specs.Streams.{put_back, taken, AtEnd, MoreThan};
 ghost use Rattle.ng_terms.specs.Causes.{Rose};
 
@@ -19,27 +19,28 @@ pub enum ReadFault {
     Host,
 }
 
-/// The whole input, where it has at most `limit` bytes. Of a longer one the first `limit + 1` bytes are read.
+/// The whole input, where it has at most `limit` bytes. Of a longer one `limit + 1` are read.
 pub fn read_whole<I: Source>(
     alloc: Global,
     input: &mut I,
     limit: usize,
 ) -> Result<Vec<u8>, ReadFault>
-    requires { limit < 2 ^ 62 }
-    ensures bytes { IfOk result (λ bytes. I.left input.old ≡ put_back bytes.items (I.left input.new)) }
+    ensures bytes { IfOk result
+        (λ bytes. I.left input.old ≡ put_back bytes.items (I.left input.new)) }
     ensures end { OnOk result (AtEnd (I.left input.new)) }
     ensures short { IfOk result (λ bytes. vec_len bytes ≤ limit) }
 
     ensures read { result ≡ Err ReadFault.Read → Rose (I.faults input.old) (I.faults input.new) }
     ensures long { result ≡ Err ReadFault.TooLong → MoreThan limit (I.left input.old) }
-    ensures taken { result ≡ Err ReadFault.TooLong → I.left input.new ≡ taken (limit + 1) (I.left input.old) }
+    ensures taken { result ≡ Err ReadFault.TooLong
+        → I.left input.new ≡ taken (limit + 1) (I.left input.old) }
 
     ensures later { I.faults input.old ≤ I.faults input.new }
 {
     let mut bytes: Vec<u8> = Vec::new(alloc);
     let mut piece = [0u8; PIECE];
     while bytes.len() <= limit {
-        let wanted = (limit - bytes.len() + 1).min(PIECE);
+        let wanted = (limit - bytes.len()).min(PIECE - 1) + 1;
         let Ok(count) = input.read(&mut piece[..wanted]) else {
             return Err(ReadFault::Read);
         };

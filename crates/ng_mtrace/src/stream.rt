@@ -18,7 +18,8 @@ pub trait Source {
     fn read(&mut self, buf: &mut [u8]) -> Result<usize, Failed>
         requires { 0 < length buf.old }
         ensures within { IfOk result (λ count. count ≤ length buf.new) }
-        ensures bytes { IfOk result (λ count. left self.old ≡ put_back (take count buf.new) (left self.new)) }
+        ensures bytes { IfOk result
+            (λ count. left self.old ≡ put_back (take count buf.new) (left self.new)) }
         ensures end { IfOk result (λ count. count ≡ 0 → AtEnd (left self.new)) }
 
         ensures err { OnErr result (left self.new ≡ left self.old) }
@@ -38,7 +39,8 @@ pub trait Sink {
         requires { 0 < length bytes.now }
         ensures some { IfOk result (λ count. 1 ≤ count) }
         ensures within { IfOk result (λ count. count ≤ length bytes.now) }
-        ensures bytes { IfOk result (λ count. written self.new ≡ added (written self.old) (take count bytes.now)) }
+        ensures bytes { IfOk result
+            (λ count. written self.new ≡ added (written self.old) (take count bytes.now)) }
 
         ensures err { OnErr result (written self.new ≡ written self.old) }
         ensures cause { HasCause (faults self.old) (faults self.new) result };

@@ -5,7 +5,8 @@ ghost use Rattle.ng_mtrace.specs.Text.{parts_at};
 /// What stands before the first byte of this value, and what stands behind it.
 pub fn cut_at(text: &[u8], cut: u8) -> Option<(&[u8], &[u8])>
     ensures none { IfNone result (parts_at cut text.now ≡ text.now ∷ []) }
-    ensures some { IfSome result (λ (before, behind). parts_at cut text.now ≡ before.now ∷ parts_at cut behind.now) }
+    ensures some { IfSome result (λ (before, behind).
+        parts_at cut text.now ≡ before.now ∷ parts_at cut behind.now) }
     ensures shorter { IfSome result (λ (before, behind). length behind.now < length text.now) }
 {
     let Some(at) = place_of(text, cut) else {

@@ -1,10 +1,9 @@
 use Rattle.std.specs.Prelude.{codes}
-use Rattle.std.proofs.Common.{◌≡◌, ℕ, ◌==◌, false, refl, List, [], ◌∷◌, ◌++◌, length, sym, ◌∙◌, ap, append_assoc}
+use Rattle.std.proofs.Common.{◌≡◌, ℕ, ◌==◌, false, refl, [], ◌∷◌, length, sym, ◌∙◌, ap, append_assoc}
 use Rattle.std.proofs.lemmas.Bool.{eqb-true}
 use Rattle.std.proofs.lemmas.List.{append-nil}
 use Rattle.ng_mtrace.specs.FirstBody.{IsBody}
 use Rattle.ng_mtrace.specs.Text.{parts_of}
-use Rattle.ng_mtrace.specs.declared.log.Line.{Line}
 use Rattle.ng_mtrace.proofs.FirstBodies.{body-end, body-more, body-less, body-wrong, body-behind, body-open, no_word}
 use Rattle.ng_mtrace.proofs.Parts.{parts_at-nil, parts_at-empty}
 use Rattle.ng_mtrace.proofs.first_form.body_lines.Goals as goal
@@ -41,11 +40,11 @@ loop-text-preserved c =
     let behind = parts_of c.in-Some.behind.now in
     record {
       onward = λ more body.
-        let longer : IsBody (text ∷ behind) (line ∷ more) = body-more text line behind more (sym c.in-Some-read_line.ensures) body in
-        rw (c.in-Ok.ensures.items, append_assoc) (c.loop-text.invariant.onward (line ∷ more) (rw c.in-Some.ensures.some longer));
+          let longer : IsBody (text ∷ behind) (line ∷ more) = body-more text line behind more (sym c.in-Some-read_line.ensures) body in
+          rw (c.in-Ok.ensures.items, append_assoc) (c.loop-text.invariant.onward (line ∷ more) (rw c.in-Some.ensures.some longer));
       back = λ lines whole.
-        let rest = c.loop-text.invariant.back lines whole in
-        body-less text line behind rest.lines (sym c.in-Some-read_line.ensures) (rw c.in-Some.ensures.some at rest.body);
+          let rest = c.loop-text.invariant.back lines whole in
+          body-less text line behind rest.lines (sym c.in-Some-read_line.ensures) (rw c.in-Some.ensures.some at rest.body);
     }
 
 pub returns-clause-none : goal.returns-clause-none

@@ -1,4 +1,4 @@
-use Rattle.std.proofs.Common.{◌≡◌, List, ◌++◌, length}
+use Rattle.std.proofs.Common.{List, ◌++◌, length}
 use Rattle.ng_mtrace.specs.FirstBody.{IsBody}
 use Rattle.ng_mtrace.specs.Text.{parts_of}
 use Rattle.ng_mtrace.specs.declared.log.Line.{Line}

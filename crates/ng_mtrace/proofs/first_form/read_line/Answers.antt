@@ -1,4 +1,3 @@
-use Rattle.std.proofs.Common.{◌<◌, length, arith}
 use Rattle.ng_mtrace.specs.Text.{tokens_of}
 use Rattle.ng_mtrace.proofs.FirstForms.{line_of-many}
 use Rattle.ng_mtrace.proofs.Parts.{parts_at-some_part}

@@ -1,4 +1,4 @@
-use Rattle.std.proofs.Common.{◌≡◌, sym, ◌∙◌}
+use Rattle.std.proofs.Common.{sym}
 use Rattle.ng_mtrace.proofs.Parts.{parts_at-none, parts_at-cut}
 use Rattle.ng_mtrace.proofs.text.cut_at.Goals as goal
 
