@@ -1,0 +1,5 @@
+pub mod FirstLemmas
+pub mod KnownLemmas
+pub mod MakerLemmas
+pub mod SortedLemmas
+pub mod TableLemmas
