@@ -1,6 +1,6 @@
 -- Names that are known, one more line and some more names.
-use Rattle.std.proofs.Common.{◌≡◌, ℕ, ◌+◌, ◌<◌, List, length, get_or, ap, subst, sym, arith, ⊎_elim}
-use Rattle.std.specs.Prelude.{Contains, All}
+use Rattle.std.proofs.Common.{ℕ, ◌+◌, ◌<◌, List, length, get_or, subst, sym, arith, ⊎_elim}
+use Rattle.std.specs.Prelude.{Contains}
 use Rattle.std.proofs.lemmas.Bool.{cases_eq}
 use Rattle.std.proofs.lemmas.List.{get_or_default}
 use Rattle.ng_mtrace.specs.declared.log.Line.{Line}

@@ -1,4 +1,5 @@
 pub mod FirstLemmas
+pub mod FirstSound
 pub mod KnownLemmas
 pub mod MakerLemmas
 pub mod SortedLemmas

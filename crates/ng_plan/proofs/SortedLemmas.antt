@@ -1,5 +1,5 @@
 -- Names in order, each once.
-use Rattle.std.proofs.Common.{◌≡◌, ℕ, ◌<◌, List, length, eqb, get_or, arith}
+use Rattle.std.proofs.Common.{◌≡◌, ℕ, List, eqb}
 use Rattle.std.specs.Prelude.{Contains}
 use Rattle.std.specs.List.{dedup}
 use Rattle.std.specs.List.Sorted.{IsSorted, IsPermutation}

@@ -1,12 +1,11 @@
 -- Tables by the numbers of names, one more line.
-use Rattle.std.proofs.Common.{◌≡◌, ℕ, ◌+◌, ◌<◌, ◌≤◌, ◌⊎◌, Bool, true, false, List, [], ◌∷◌, ◌++◌, length, Option, Some, None, Ok, Err, Result, cond, eqb, get_or, set, refl, sym, ap, ◌∙◌, arith, ⊎_elim, add-zero}
+use Rattle.std.proofs.Common.{◌≡◌, ℕ, ◌+◌, ◌<◌, ◌≤◌, true, false, List, [], ◌∷◌, ◌++◌, length, Option, Some, None, eqb, get_or, sym, ap, ◌∙◌, arith, ⊎_elim, add-zero}
 use Rattle.std.specs.Prelude.{Contains}
 use Rattle.std.proofs.lemmas.Bool.{cases_eq, cases_lt}
 use Rattle.std.proofs.lemmas.Bool.Decides.{nat_tests}
-use Rattle.std.proofs.lemmas.List.{get_or-set_same, get_or-set_other}
 use Rattle.std.proofs.lemmas.List.{get_or_read}
 use Rattle.ng_mtrace.specs.declared.log.Line.{Line}
-use Rattle.ng_plan.specs.Mentions.{ended, made, is_name, maker_then, maker_from, maker}
+use Rattle.ng_plan.specs.Mentions.{is_name, maker_then, maker_from, maker}
 use Rattle.ng_plan.specs.Tables.{Rises}
 
 -- one more line at the end

@@ -4,7 +4,7 @@ use Rattle.std.specs.Option.{option_map}
 use Rattle.ng_mtrace.specs.declared.log.Line.{Line}
 use Rattle.ng_mtrace.specs.declared.log.Line.TheVariants as line
 use Rattle.ng_terms.specs.declared.plan.Op.{Op}
-use Rattle.ng_terms.specs.declared.plan.Op.TheVariants.{Make, Free, Move}
+use Rattle.ng_terms.specs.declared.plan.Op.TheVariants.{Make, Free}
 use Rattle.ng_terms.specs.declared.plan.Origin.TheVariants.{Own}
 use Rattle.ng_terms.specs.declared.plan.Plan.{Plan}
 use Rattle.ng_plan.specs.Mentions.{maker}

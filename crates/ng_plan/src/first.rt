@@ -1,7 +1,7 @@
-ghost use Rattle.std.specs.Prelude.{◌≡◌, ◌≤◌, ◌++◌, ◌∷◌, [], ℕ, List, length, IfOk, OnSome, All, MatchOption, Some, None};
+ghost use Rattle.std.specs.Prelude.{◌≡◌, ◌≤◌, ◌++◌, ◌∷◌, [], ℕ, List, length, IfOk, IfSome, OnSome, All, MatchOption, Some, None};
 ghost use Rattle.std.specs.Option.{option_map};
 ghost use Rattle.ng_mtrace.specs.declared.log.Line.{Line};
-ghost use Rattle.ng_plan.specs.First.{first_op, first_ops, alone};
+ghost use Rattle.ng_plan.specs.First.{first_op, first_ops, alone, TakesOwn};
 ghost use Rattle.ng_plan.specs.Tables.{AreMakers, IsKnown, Rises};
 
 use crate::names::{each_once, mention_all, number_of};
@@ -14,6 +14,9 @@ use std::alloc::{AllocError, Global};
 pub fn first_plan(alloc: Global, log: &[Line]) -> Result<Option<Plan>, Host>
     requires few { length log.now ≤ 1000000 }
     ensures plan { IfOk result (λ plan. plan ≡ option_map alone (first_ops log.now)) }
+
+    // Each end takes an earlier make of its name, which no other end takes.
+    ensures own { IfOk result (λ plan. IfSome plan (λ plan. All TakesOwn plan.logs)) }
 {
     let Ok(found) = ops_of(alloc, log) else {
         return Err(Host);
@@ -55,11 +58,7 @@ fn ops_of(alloc: Global, lines: &[Line]) -> Result<Option<Vec<Op>>, AllocError>
 }
 
 /// The same, where the names have numbers.
-fn ops_among(
-    alloc: Global,
-    names: &[u64],
-    lines: &[Line],
-) -> Result<Option<Vec<Op>>, AllocError>
+fn ops_among(alloc: Global, names: &[u64], lines: &[Line]) -> Result<Option<Vec<Op>>, AllocError>
     requires rising { Rises names.now }
     requires known { All (IsKnown names.now) lines.now }
     requires few { length lines.now ≤ 1000000 }

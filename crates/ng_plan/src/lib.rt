@@ -7,3 +7,6 @@ mod names;
 
 pub use first::first_plan;
 pub use ng_terms::{Op, Origin, Plan};
+
+#[cfg(test)]
+mod tests;

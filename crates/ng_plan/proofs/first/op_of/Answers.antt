@@ -1,4 +1,3 @@
-use Rattle.std.proofs.Common.{sym}
 use Rattle.ng_plan.proofs.FirstLemmas.{make_at, end_at}
 use Rattle.ng_plan.proofs.first.op_of.Goals as goal
 

@@ -1,4 +1,3 @@
-use Rattle.std.proofs.Common.{sym}
 use Rattle.ng_plan.proofs.KnownLemmas.{still_known}
 use Rattle.ng_plan.proofs.first.ops_of.Goals as goal
 

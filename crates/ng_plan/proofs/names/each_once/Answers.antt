@@ -1,5 +1,4 @@
-use Rattle.std.proofs.Common.{◌≡◌, eqb, List, ℕ, nat_cmp, IsSorted, rules}
-use Rattle.std.specs.List.{dedup}
+use Rattle.std.proofs.Common.{eqb, nat_cmp, IsSorted, rules}
 use Rattle.std.proofs.lemmas.List.Filters.{dedup_is}
 use Rattle.ng_plan.proofs.SortedLemmas.{rises, still_known}
 use Rattle.ng_plan.proofs.names.each_once.Goals as goal
