@@ -6,17 +6,17 @@ ghost use Rattle.ng_header.specs.Cycle.{cycle_of, next_offset, power_above};
 ///
 /// `old` is the 16-bit field that the header at the start keeps, or `None` where it keeps none.
 /// `slack` is how many units the slot has to spare, and `counter` counts mappings.
-#[tactic(auto, using(crate::proofs::CycleLemmas::mod_power_above, crate::proofs::CycleLemmas::mod_power_above_small, crate::proofs::CycleLemmas::power_above_le,))]
+#[tactic(auto, using(crate::proofs::CycleLemmas::cycle_steps))]
 pub fn cycle(old: Option<u32>, slack: u64, counter: u64) -> u64
     requires { ForSome old (λ field. field < 2 ^ 16) }
     ensures value { result ≡ cycle_of old slack counter }
     ensures within { result ≤ slack }
 {
-    let wanted = wanted(old, counter);
-    if wanted <= slack {
-        return wanted;
+    let offset = wanted(old, counter);
+    if offset <= slack {
+        return offset;
     }
-    let masked = wanted & smear(slack);
+    let masked = offset & smear(slack);
     if masked > slack {
         masked - (slack + 1)
     } else {
