@@ -1,74 +1,27 @@
 use crate::{Ib, NominalFault, Trailer, cell_of, cycle, ib_of, nominal, reserved_of, trailer};
 
+fn header(check: u8, index: u32, reserved: u32, offset: u32) -> Ib {
+    Ib {
+        check,
+        index,
+        reserved,
+        offset,
+    }
+}
+
 #[test]
 fn header_cells(rt: HostRuntime) {
     let rows = [
         // the first and the second block of 20 bytes in slots of 32
-        (
-            [0x00, 0xa0, 0x00, 0x00],
-            Ib {
-                check: 0,
-                index: 0,
-                reserved: 5,
-                offset: 0,
-            },
-        ),
-        (
-            [0x00, 0xa1, 0x02, 0x00],
-            Ib {
-                check: 0,
-                index: 1,
-                reserved: 5,
-                offset: 2,
-            },
-        ),
-        // a block 130559 units behind its storage, too far for the field
-        (
-            [0x01, 0xa0, 0x00, 0x00],
-            Ib {
-                check: 1,
-                index: 0,
-                reserved: 5,
-                offset: 0,
-            },
-        ),
-        // what a free leaves, a parent slot, the mark of a start that isn't a block's, the greatest fields
-        (
-            [0x00, 0xff, 0x00, 0x00],
-            Ib {
-                check: 0,
-                index: 31,
-                reserved: 7,
-                offset: 0,
-            },
-        ),
-        (
-            [0x00, 0xc1, 0x7f, 0x00],
-            Ib {
-                check: 0,
-                index: 1,
-                reserved: 6,
-                offset: 127,
-            },
-        ),
-        (
-            [0x00, 0xe0, 0x01, 0x02],
-            Ib {
-                check: 0,
-                index: 0,
-                reserved: 7,
-                offset: 0x201,
-            },
-        ),
-        (
-            [0xff, 0xff, 0xff, 0xff],
-            Ib {
-                check: 255,
-                index: 31,
-                reserved: 7,
-                offset: 65535,
-            },
-        ),
+        ([0x00, 0xa0, 0x00, 0x00], header(0, 0, 5, 0)),
+        ([0x00, 0xa1, 0x02, 0x00], header(0, 1, 5, 2)),
+        // a block 130559 units behind its storage: that number stands in the cell before
+        ([0x01, 0xa0, 0x00, 0x00], header(1, 0, 5, 0)),
+        // what a free leaves; a parent slot; the start of a slot whose block stands further on
+        ([0x00, 0xff, 0x00, 0x00], header(0, 31, 7, 0)),
+        ([0x00, 0xc1, 0x7f, 0x00], header(0, 1, 6, 127)),
+        ([0x00, 0xe0, 0x01, 0x02], header(0, 0, 7, 0x201)),
+        ([0xff, 0xff, 0xff, 0xff], header(255, 31, 7, 65535)),
     ];
     for (bytes, ib) in rows {
         let cell = u32::from_le_bytes(bytes);
@@ -113,57 +66,23 @@ fn offsets_cycle_within_the_slack(rt: HostRuntime) {
     }
 }
 
+fn behind(field: u32, zero_at: Option<u64>, word: Option<u32>) -> Trailer {
+    Trailer {
+        field,
+        zero_at,
+        word,
+    }
+}
+
 #[test]
 fn trailers(rt: HostRuntime) {
     let rows = [
-        (
-            0,
-            Trailer {
-                field: 0,
-                zero_at: None,
-                word: None,
-            },
-        ),
-        (
-            1,
-            Trailer {
-                field: 1,
-                zero_at: Some(1),
-                word: None,
-            },
-        ),
-        (
-            4,
-            Trailer {
-                field: 4,
-                zero_at: Some(4),
-                word: None,
-            },
-        ),
-        (
-            5,
-            Trailer {
-                field: 5,
-                zero_at: Some(5),
-                word: Some(5),
-            },
-        ),
-        (
-            6,
-            Trailer {
-                field: 5,
-                zero_at: Some(6),
-                word: Some(6),
-            },
-        ),
-        (
-            u32::MAX,
-            Trailer {
-                field: 5,
-                zero_at: Some(4294967295),
-                word: Some(4294967295),
-            },
-        ),
+        (0, behind(0, None, None)),
+        (1, behind(1, Some(1), None)),
+        (4, behind(4, Some(4), None)),
+        (5, behind(5, Some(5), Some(5))),
+        (6, behind(5, Some(6), Some(6))),
+        (u32::MAX, behind(5, Some(4294967295), Some(4294967295))),
     ];
     for (reserved, written) in rows {
         assert_eq!(rt;

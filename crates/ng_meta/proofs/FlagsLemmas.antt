@@ -1,5 +1,5 @@
 -- A meta's flags and their fields are inverse to each other.
-use Rattle.std.proofs.Common.{◌≡◌, ℕ, ◌^◌, ◌<◌, arith}
+use Rattle.std.proofs.Common.{◌≡◌, ℕ, arith}
 use Rattle.std.proofs.lemmas.Grind.{common_steps}
 use Rattle.ng_meta.specs.Flags.{IsInRange, fields_in, flags_with}
 use Rattle.ng_meta.specs.declared.flags.Fields.{Fields}

@@ -1,13 +1,14 @@
 ghost use Rattle.std.specs.Prelude.{◌%◌, ◌<◌, ◌^◌, ◌≡◌, ◌↔◌, IsTrue};
 ghost use Rattle.ng_meta.specs.Place.{IsApartFromOthers, IsMetaPlace, LiesIn, area_at, meta_place};
 
-const PAGE: u64 = 4096;
+// Of an area: its page, what stands before the metas, a meta, and how many there are.
+const PAGE_BYTES: u64 = 4096;
+
+const HEAD_BYTES: u64 = 24;
+
+const META_BYTES: u64 = 40;
 
 const METAS: u64 = 101;
-
-const META: u64 = 40;
-
-const HEAD: u64 = 24;
 
 /// The address of meta `i`, below 101, in the area at a page's address.
 pub fn meta_at(area: u64, i: u32) -> u64
@@ -19,27 +20,26 @@ pub fn meta_at(area: u64, i: u32) -> u64
     ensures area { area_at result ≡ area }
     ensures apart { IsApartFromOthers area i result }
 {
-    area + HEAD + META * u64::from(i)
+    area + HEAD_BYTES + META_BYTES * u64::from(i)
 }
 
 /// Whether a meta may stand at an address, in a space of so many pages.
+#[tactic(auto, using(crate::proofs::PlaceLemmas::meta_from_parts))]
 pub fn is_meta_place(addr: u64, pages: u32) -> bool
     ensures { IsTrue result ↔ IsMetaPlace addr pages }
 {
-    let page = addr / PAGE;
-    let at = addr % PAGE;
-    if page == 0 || page >= u64::from(pages) {
+    let page = addr / PAGE_BYTES;
+    let at = addr % PAGE_BYTES;
+    if page == 0 || page >= u64::from(pages) || at < HEAD_BYTES {
         return false;
     }
-    if at < HEAD || (at - HEAD) % META != 0 {
-        return false;
-    }
-    at < HEAD + META * METAS
+    let behind = at - HEAD_BYTES;
+    behind % META_BYTES == 0 && behind / META_BYTES < METAS
 }
 
 /// The address of the page that an address lies in.
 pub fn area_of(addr: u64) -> u64
     ensures { result ≡ area_at addr }
 {
-    addr & !(PAGE - 1)
+    addr & !(PAGE_BYTES - 1)
 }

@@ -3,70 +3,30 @@ use crate::{
     tag_of,
 };
 
+fn group(last: u32, freeable: bool, class: u32, maplen: u64) -> Fields {
+    Fields {
+        last,
+        freeable,
+        class,
+        maplen,
+    }
+}
+
 #[test]
 fn flags(rt: HostRuntime) {
     let rows = [
         // class 1 with 15 slots; class 23 with 2 slots and a run of one page
-        (
-            [0x6e, 0x00, 0x00, 0x00],
-            0,
-            Fields {
-                last: 14,
-                freeable: true,
-                class: 1,
-                maplen: 0,
-            },
-        ),
-        (
-            [0xe1, 0x15, 0x00, 0x00],
-            0,
-            Fields {
-                last: 1,
-                freeable: true,
-                class: 23,
-                maplen: 1,
-            },
-        ),
-        // a block mapped by itself in 513 pages, nothing at all, and the greatest fields
-        (
-            [0xe0, 0x1f, 0x20, 0x00],
-            0,
-            Fields {
-                last: 0,
-                freeable: true,
-                class: 63,
-                maplen: 513,
-            },
-        ),
-        (
-            [0x00, 0x00, 0x00, 0x00],
-            0,
-            Fields {
-                last: 0,
-                freeable: false,
-                class: 0,
-                maplen: 0,
-            },
-        ),
-        (
-            [0x00, 0x00, 0x00, 0x00],
-            1,
-            Fields {
-                last: 0,
-                freeable: false,
-                class: 0,
-                maplen: 0x10_0000,
-            },
-        ),
+        ([0x6e, 0x00, 0x00, 0x00], 0, group(14, true, 1, 0)),
+        ([0xe1, 0x15, 0x00, 0x00], 0, group(1, true, 23, 1)),
+        // one block in a run of 513 pages; no group
+        ([0xe0, 0x1f, 0x20, 0x00], 0, group(0, true, 63, 513)),
+        ([0x00, 0x00, 0x00, 0x00], 0, group(0, false, 0, 0)),
+        // what no group has, but a forged meta may
+        ([0x00, 0x00, 0x00, 0x00], 1, group(0, false, 0, 0x10_0000)),
         (
             [0xff, 0xff, 0xff, 0xff],
             u32::MAX,
-            Fields {
-                last: 31,
-                freeable: true,
-                class: 63,
-                maplen: 0xf_ffff_ffff_ffff,
-            },
+            group(31, true, 63, 0xf_ffff_ffff_ffff),
         ),
     ];
     for (bytes, high, fields) in rows {
@@ -99,13 +59,14 @@ fn meta_places(rt: HostRuntime) {
         (0x1018, 16, true),
         (0x1fb8, 16, true),
         (0xffb8, 16, true),
-        // in page 0, in the head, between two metas, the place of meta 101, past the space, in a page that is no page
+        // in page 0; in a head; between two metas; where meta 101 would be
         (0x18, 16, false),
         (0x1000, 16, false),
         (0x1020, 16, false),
         (0x1fe0, 16, false),
-        (0x1_0018, 16, false),
+        // past the space
         (0x1018, 1, false),
+        (0x1_0018, 16, false),
         (0xffff_ffff_ffff_f018, 16384, false),
     ];
     for (addr, pages, is_place) in rows {
@@ -122,8 +83,8 @@ fn words(rt: HostRuntime) {
     let rows = [
         (0, 0x7fff_fffe, 0x1_7fff_fffe),
         (23, 2, 0x18_0000_0002),
-        (63, 0, 0x40_0000_0000),
         (47, u32::MAX, 0x30_ffff_ffff),
+        (63, 0, 0x40_0000_0000),
     ];
     for (class, mask, word) in rows {
         assert!(rt; class < 64);
@@ -135,8 +96,21 @@ fn words(rt: HostRuntime) {
             "halves of {word:#x}"
         );
     }
-    let secret = 0x0123_4567_89ab_cdef;
-    assert!(rt; is_secret(0x89ab_cdef, 0x0123_4567, secret));
-    assert!(rt; !is_secret(0x0123_4567, 0x89ab_cdef, secret));
-    assert!(rt; !is_secret(0x89ab_cdef, 0x0123_4566, secret));
+}
+
+#[test]
+fn secrets(rt: HostRuntime) {
+    let rows = [
+        (0x89ab_cdef, 0x0123_4567, true),
+        (0x0123_4567, 0x89ab_cdef, false),
+        (0x89ab_cdef, 0x0123_4566, false),
+        (0x89ab_cdee, 0x0123_4567, false),
+    ];
+    for (low, high, is) in rows {
+        assert_eq!(rt;
+            is_secret(low, high, 0x0123_4567_89ab_cdef),
+            is,
+            "{low:#x}, {high:#x}"
+        );
+    }
 }
