@@ -27,6 +27,7 @@ pub record IsPowerAbove (slack : ℕ) : Type 0 where
   pub above : slack < power_above slack
   pub near : power_above slack ≤ 2 * slack + 1
 
+-- so it is the least one above the slack
 pub power_above-bounds : (slack : ℕ) → slack < 2 ^ 64 → IsPowerAbove slack
 power_above-bounds slack low =
     let (m, zeros, above, near) = leading_length 64 slack low in
@@ -40,6 +41,7 @@ mod_power_above-small offset slack small low =
     let below : offset < power_above slack = omega (arith, power.above) in
     mod-eq_of_lt below
 
+-- what the proof of `cycle` needs of the power
 pub ruleset cycle_steps = (bit_and-power_above, mod_power_above-small, power_above-bounds)
 
 -- an offset is at most the slack

@@ -18,10 +18,10 @@ pub record IsMetaPlace (addr pages : ℕ) : Type 0 where
   pub counted : i < 101
   pub stands : addr ≡ meta_place (4096 * page) i
 
--- the 40 bytes of a meta lie behind the head of the area's page, and in that page
+-- the 40 bytes of a meta lie behind the area's head of 24 bytes, and before the last 32 of its page
 pub record LiesIn (area meta : ℕ) : Type 0 where
   pub after : area + 24 ≤ meta
-  pub before : meta + 40 ≤ area + 4096
+  pub before : meta + 40 ≤ area + 4064
 
 -- no byte is one of both metas
 abbrev pub AreApart : ℕ → ℕ → Type 0
