@@ -1,4 +1,4 @@
-ghost use Rattle.std.specs.Prelude.{◌≡◌, ◌≢◌, All, ◌≤◌, ◌↔◌, List, ◌∷◌, IfOk, IfErr, IfSome, IsNone, OnOk, OnErr, Contains, IsPermutation, sum_by};
+ghost use Rattle.std.specs.Prelude.{◌≡◌, ◌≢◌, ◌≤◌, ◌↔◌, List, All, Contains, IfOk, IfErr, IfSome, IsNone, OnOk, OnErr, sum_by};
 ghost use Rattle.ng_terms.specs.Causes.{HasCause};
 ghost use Rattle.ng_mapper.specs.declared.refusals.Refusals.{Refusals};
 ghost use Rattle.ng_mapper.specs.Runs.{Run, AddsRun, RemovesRun};
