@@ -1,5 +1,5 @@
 -- Inputs in the first form.
-use Rattle.std.proofs.Common.{◌≡◌, ◌≢◌, ◌⊎◌, ℕ, ◌+◌, ◌<◌, ◌≤◌, ◌^◌, List, [], ◌∷◌, ◌++◌, Option, Some, None, length, map, slice_index_or, arith, refl, ap, sym, subst, rules, inl, ◌∙◌, codes, eqb, length-append}
+use Rattle.std.proofs.Common.{◌≡◌, ◌≢◌, ◌⊎◌, ℕ, suc, ◌+◌, ◌<◌, ◌≤◌, ◌^◌, List, [], ◌∷◌, ◌++◌, Option, Some, None, length, map, slice_index_or, arith, refl, ap, sym, subst, rules, inl, ◌∙◌, codes, eqb, length-append}
 use Rattle.std.specs.Prelude.{count_by}
 use Rattle.std.specs.Option.{option_map}
 use Rattle.std.proofs.lemmas.List.{append_cancel_right, length-map}
@@ -11,12 +11,14 @@ use Rattle.ng_mtrace.specs.FirstForm.{IsFirstForm, ReadsFirst, ReadsOther, line_
 use Rattle.ng_mtrace.specs.Text.{parts_at, parts_of}
 use Rattle.std.proofs.lemmas.List.Elements.{All-cons, All-head, All-nil}
 use Rattle.std.specs.List.{All}
-use Rattle.ng_plan.specs.First.{TakesOwn, alone, first_ops}
+use Rattle.ng_plan.specs.First.{TakesOwn, alone, first_op, first_ops, first_ops_behind}
+use Rattle.ng_replay.proofs.FirstLemmas.{with_op-Some}
+use Rattle.ng_report.specs.Room.{op_count}
 use Rattle.ng_replay.specs.Lone.{IsLone}
 use Rattle.ng_replay.proofs.FirstLemmas.{IsLone-first}
 use Rattle.ng_terms.specs.declared.plan.Op.{Op}
 use Rattle.ng_terms.specs.declared.plan.Plan.{Plan}
-use Rattle.mng.specs.Inputs.{PlansInput, RejectsInput}
+use Rattle.mng.specs.Inputs.{IsAlone, PlansInput, RejectsInput}
 
 -- a text has at most one part more than bytes
 length-parts_of : (text : List ℕ) → length (parts_of text) ≤ length text + 1
@@ -92,8 +94,8 @@ plan-alone : (plan : Plan) (ops : Option (List Op)) → Some plan ≡ option_map
 plan-alone plan None planned = absurd (cc)
 plan-alone plan (Some log) planned = (log, refl, cc)
 
-pub one-log : (plan : Plan) (lines : List Line) → Some plan ≡ option_map alone (first_ops lines) → length plan.logs ≡ 1
-one-log plan lines planned = let (log, ops, is) = plan-alone plan (first_ops lines) planned in rw is refl
+pub alone-log : (plan : Plan) (lines : List Line) → Some plan ≡ option_map alone (first_ops lines) → IsAlone plan
+alone-log plan lines planned = let (log, ops, is) = plan-alone plan (first_ops lines) planned in rw is refl
 
 -- its log takes only blocks of its own
 pub lone-log : (plan : Plan) (lines : List Line) → Some plan ≡ option_map alone (first_ops lines) → All TakesOwn plan.logs → All IsLone plan.logs
@@ -102,3 +104,18 @@ lone-log plan lines planned takes =
     let own : All TakesOwn (log ∷ []) = rw is at takes in
     let lone : IsLone log = IsLone-first lines log ops (All-head TakesOwn log [] own) in
     rw is (All-cons IsLone log [] lone (All-nil IsLone))
+
+-- a plan has as many ops as the log has lines
+first_ops-count : (before lines : List Line) (ops : List Op) → first_ops_behind before lines ≡ Some ops → length ops ≡ length lines
+first_ops-count before [] ops is = let none : ops ≡ [] = cc in ap length none
+first_ops-count before (this ∷ lines) ops is =
+    let (first, rest, one, behind, all) = with_op-Some (first_op before this) (first_ops_behind (before ++ this ∷ []) lines) ops is in
+    let fewer : length rest ≡ length lines = first_ops-count (before ++ this ∷ []) lines rest behind in
+    let more : length ops ≡ suc (length rest) = ap length all in
+    omega arith
+
+pub few-ops : (plan : Plan) (lines : List Line) → Some plan ≡ option_map alone (first_ops lines) → length lines < 2 ^ 32 → op_count plan.logs < 2 ^ 32
+few-ops plan lines planned few =
+    let (log, ops, is) = plan-alone plan (first_ops lines) planned in
+    let count : length log ≡ length lines = first_ops-count [] lines log ops in
+    rw is (omega arith)

@@ -1,5 +1,5 @@
 -- Inputs in the first form, and their plans.
-use Rattle.std.specs.Prelude.{◌≡◌, ◌⊎◌, ℕ, List, Option, Some, None, length}
+use Rattle.std.specs.Prelude.{◌≡◌, ◌⊎◌, ℕ, List, [], Option, Some, None, length, slice_index_or}
 use Rattle.std.specs.Option.{option_map}
 use Rattle.ng_mtrace.specs.declared.log.Line.{Line}
 use Rattle.ng_mtrace.specs.FirstForm.{IsFirstForm}
@@ -22,3 +22,7 @@ pub record RejectsInput (before now : Option (List ℕ)) : Type 0 where
   pub taken : before ≡ put_back bytes now
   pub enough : AtEnd now ⊎ (length bytes ≡ 1048577)
   pub other : (lines : List Line) → IsFirstForm bytes lines → first_ops lines ≡ None
+
+-- the plan has one log, which hands nothing off
+abbrev pub IsAlone : Plan → Type 0
+IsAlone plan = plan ≡ alone (slice_index_or plan.logs 0 [])

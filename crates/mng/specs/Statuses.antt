@@ -48,3 +48,12 @@ IsInputFault ReadFault = Unit {0}
 IsInputFault (BadLine line) = line ≡ 0
 IsInputFault WriteFault = ⊥
 IsInputFault Host = Unit {0}
+
+-- the status comes behind the last heap call
+abbrev pub IsLate : Status → Type 0
+IsLate Done = Unit {0}
+IsLate WriteFault = Unit {0}
+IsLate Usage = ⊥
+IsLate ReadFault = ⊥
+IsLate (BadLine line) = ⊥
+IsLate Host = ⊥
