@@ -1,0 +1,5 @@
+pub mod CallLemmas
+pub mod HexLemmas
+pub mod KindLemmas
+pub mod ReportLemmas
+pub mod SummaryLemmas
