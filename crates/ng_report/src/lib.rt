@@ -10,6 +10,8 @@ mod op_lines;
 mod report;
 mod room;
 mod summary;
+#[cfg(test)]
+mod tests;
 mod text;
 
 pub use report::{render, report_room};
