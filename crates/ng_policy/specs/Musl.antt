@@ -25,6 +25,11 @@ medium_table =
     (20 ∷ 10 ∷ 5 ∷ []) ∷
     (32 ∷ 16 ∷ 8 ∷ 4 ∷ 2 ∷ 1 ∷ []) ∷ []
 
+-- the numbers of slots to choose from, for any class
+abbrev pub choices_of : ℕ → List ℕ
+choices_of class =
+    if nat_lt class 9 then slice_index_or small_table class [] else slice_index_or medium_table (class % 4) []
+
 -- the first choice that is at most a quarter of the usage, or the last
 abbrev pub first_choice : List ℕ → ℕ → ℕ
 first_choice choices usage =
@@ -40,8 +45,8 @@ fitting units slots =
 -- the choice for a class of this usage
 unfoldable pub chosen : ℕ → ℕ → ℕ
 chosen class usage =
-    if nat_lt class 9 then first_choice (slice_index_or small_table class []) usage
-    else fitting (units_of class) (first_choice (slice_index_or medium_table (class % 4) []) usage)
+    let slots = first_choice (choices_of class) usage in
+    if nat_lt class 9 then slots else fitting (units_of class) slots
 
 -- no group in another's slot is a single slot: where its 16 bytes and one slot are at most 2048 bytes it has two
 abbrev pub paired : ℕ → ℕ → ℕ

@@ -2,7 +2,7 @@
 ghost use Rattle.std.specs.Prelude.{◌≡◌, ◌<◌, ◌≤◌, ◌*◌, ◌^◌, ◌↔◌, IsTrue, length};
 ghost use Rattle.ng_class.specs.Class.{units_of};
 ghost use Rattle.ng_policy.specs.Ask.{AskInRange, IsCount};
-ghost use Rattle.ng_policy.specs.Musl.{first_choice, fitting, chosen, paired, is_sparse, thinned, musl_slots, IsWorthKeeping};
+ghost use Rattle.ng_policy.specs.Musl.{choices_of, first_choice, fitting, chosen, paired, is_sparse, thinned, musl_slots, IsWorthKeeping};
 
 use crate::ask::{Ask, Spare};
 use ng_class::{UNIT, units};
@@ -60,11 +60,23 @@ fn chosen_slots(class: u32, usage: u64) -> u32
     ensures value { result ≡ chosen class usage }
     ensures allowed { IsCount class result }
 {
+    let slots = first_of(choices(class), usage);
     if class < 9 {
-        first_of(&SMALL[class as usize], usage)
+        slots
     } else {
-        let slots = first_of(MEDIUM[(class % 4) as usize], usage);
         halved(units(class), slots)
+    }
+}
+
+// The numbers of slots to choose from.
+#[tactic(auto, unfolding(crate::specs::Musl::small_table, crate::specs::Musl::medium_table))]
+fn choices(class: u32) -> &'static [u8]
+    ensures { result.now ≡ choices_of class }
+{
+    if class < 9 {
+        &SMALL[class as usize]
+    } else {
+        MEDIUM[(class % 4) as usize]
     }
 }
 
