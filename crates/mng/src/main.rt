@@ -5,6 +5,8 @@ mod asked;
 mod prepare;
 mod run;
 mod status;
+#[cfg(test)]
+mod tests;
 mod tool;
 mod words;
 

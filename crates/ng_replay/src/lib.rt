@@ -6,6 +6,8 @@ mod lone;
 mod make;
 mod op;
 mod plain;
+#[cfg(test)]
+mod tests;
 
 pub use heap::SequentialHeap;
 pub use lone::serial_alone;
