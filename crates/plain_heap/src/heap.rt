@@ -77,7 +77,8 @@ impl<M: Mapper> PlainHeap<M> {
             MayGive (space_in self.old) (live_in self.old) (extent at n 16)) }
         ensures calm { OnOk result (self.new.now ≡ self.old.now) }
 
-        ensures refused { IfErr result (λ why. Enters self.old self.new caller (refusal_entry n why)) }
+        ensures refused { IfErr result (λ why.
+            Enters self.old self.new caller (refusal_entry n why)) }
         ensures too_large { (result ≡ Err AllocRefusal.TooLarge) ↔ IsTooLarge 1 n 16 }
         ensures excuse { IfErr result (HasExcuse self.old.now self.new.now) }
         ensures most { self.new.now.most ≤ max (max self.old.now.most 512) (pages_for n) }
