@@ -1,3 +1,4 @@
+pub mod MaskLemmas
 pub mod SlotLemmas
 pub mod TableLemmas
 pub mod PlaceLemmas

@@ -1,5 +1,5 @@
 -- Slots in their runs, and blocks in slots.
-use Rattle.std.proofs.Common.{◌≡◌, ◌≢◌, ℕ, ◌+◌, ◌*◌, ◌/◌, ◌%◌, ◌<◌, ◌≤◌, ◌⊎◌, List, Option, Some, None, length, get_or, set, refl, sym, ap, ◌∙◌, subst, arith, ⊎_elim, inl, inr, get_or-set_same, get_or-set_other}
+use Rattle.std.proofs.Common.{◌≡◌, ◌≢◌, ℕ, ◌+◌, ◌*◌, ◌/◌, ◌%◌, ◌<◌, ◌≤◌, ◌⊎◌, List, Option, Some, None, length, set, sym, ap, ◌∙◌, subst, arith, ⊎_elim, inl, inr, get_or-set_same, get_or-set_other}
 use Rattle.std.specs.Int.{bit_at}
 use Rattle.std.proofs.lemmas.Bool.{cases_eq, cases_order}
 use Rattle.std.proofs.lemmas.Nat.Bits.{bit_at-zero}
@@ -8,7 +8,7 @@ use Rattle.ng_terms.specs.declared.entry.Extent.{Extent}
 use Rattle.ng_terms.specs.Heap.{Apart, end_of, extent}
 use Rattle.ng_class.specs.Mask.{SetsBit, ClearsBit}
 use Rattle.plain_heap.specs.declared.group.Group.{Group}
-use Rattle.plain_heap.specs.Slots.{slot_at, IsAt, IsFreeSlot, HasShapeOf, IsIn, IsPlaced}
+use Rattle.plain_heap.specs.Slots.{slot_at, IsAt, HasShapeOf, IsIn, IsPlaced}
 
 -- a slot ends within its group's run
 pub slot_end-le : (first : ℕ) (group : Group) (slot : ℕ) → slot < group.slots

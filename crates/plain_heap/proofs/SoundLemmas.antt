@@ -1,15 +1,13 @@
 -- The calls of a heap keep what holds of its history.
-use Rattle.std.proofs.Common.{◌≡◌, ◌≢◌, ℕ, ◌+◌, ◌*◌, ◌-◌, ◌%◌, ◌^◌, ◌<◌, ◌≤◌, ◌==◌, ◌⊎◌, Bool, true, not, List, [], ◌∷◌, ◌++◌, Option, Result, Ok, Err, refl, sym, ap, ◌∙◌, subst, arith, ⊎_elim, inl, inr, eq-eqb}
-use Rattle.std.specs.Prelude.{All, Contains, IfOk, IfErr, OnOk, OnErr, ◌↔◌, filter}
-use Rattle.std.proofs.lemmas.Bool.{cases_eq, cases_lt}
-use Rattle.std.proofs.lemmas.List.Elements.{All-push, All-cons, All-weaker, All-contains, All-filter, All-contains_itself, filter_passes, Contains-append_cases, Contains-push_cases}
+use Rattle.std.proofs.Common.{◌≡◌, ◌≢◌, ℕ, ◌*◌, ◌^◌, ◌<◌, ◌≤◌, ◌==◌, true, not, List, [], ◌∷◌, ◌++◌, Option, Result, Ok, Err, refl, sym, subst, arith, ⊎_elim, inr, eq-eqb}
+use Rattle.std.specs.Prelude.{All, Contains, IfOk, IfErr, OnOk, OnErr, ◌↔◌}
+use Rattle.std.proofs.lemmas.List.Elements.{All-push, All-cons, All-weaker, All-contains, filter_passes}
 use Rattle.ng_terms.specs.declared.entry.Entry.{Entry}
 use Rattle.ng_terms.specs.declared.entry.Entry.TheVariants as entry
 use Rattle.ng_terms.specs.declared.entry.Extent.{Extent}
 use Rattle.ng_terms.specs.Accounts.{IsExcused}
-use Rattle.ng_terms.specs.Causes.{Rose}
-use Rattle.ng_terms.specs.Heap.{State, empty, extent, space_of, after, without, IsLive, IsTooLarge, MayGive, MayExcuse, IsLegalStep}
-use Rattle.ng_terms.specs.Histories.{Event, IsLegal, state_after}
+use Rattle.ng_terms.specs.Heap.{State, empty, extent, space_of, after, without, IsLive, IsTooLarge, MayGive}
+use Rattle.ng_terms.specs.Histories.{Event, state_after}
 use Rattle.ng_terms.proofs.HistoryLemmas.{state_after-push, IsLegal-push}
 use Rattle.ng_terms.proofs.LiveLemmas.{Contains-cons_cases, Contains-of_filter}
 use Rattle.ng_mapper.specs.Mapping.{Span}

@@ -1,12 +1,12 @@
 -- Groups of a space by their pages.
 use Rattle.std.proofs.Common.{◌≡◌, ◌≢◌, ℕ, ◌+◌, ◌*◌, ◌/◌, ◌<◌, ◌≤◌, ◌⊎◌, List, [], ◌∷◌, Option, Some, None, length, get_or, set, refl, sym, ap, ◌∙◌, subst, arith, ⊎_elim, inl, inr, length-set, get_or-set_other}
-use Rattle.std.specs.Prelude.{All, Contains, IsPermutation}
-use Rattle.std.proofs.lemmas.Bool.{cases_eq, cases_lt, cases_order}
+use Rattle.std.specs.Prelude.{Contains, IsPermutation}
+use Rattle.std.proofs.lemmas.Bool.{cases_eq, cases_order}
 use Rattle.std.proofs.lemmas.Grind.{get_or-set_at}
 use Rattle.std.proofs.lemmas.List.{get_or_read}
 use Rattle.std.proofs.lemmas.List.Elements.{All-contains, Contains-push_cases, Contains-append_cases, Contains-append_right}
 use Rattle.std.proofs.lemmas.List.Sorted.{Contains-permutation}
-use Rattle.ng_mapper.specs.Runs.{Run, AreApart, LiesIn, run_end}
+use Rattle.ng_mapper.specs.Runs.{Run, AreApart, LiesIn}
 use Rattle.ng_mapper.specs.Mapping.{Span, IsSpan, AreLaid, IsFree}
 use Rattle.plain_heap.specs.declared.group.Group.{Group}
 use Rattle.ng_terms.specs.declared.entry.Extent.{Extent}

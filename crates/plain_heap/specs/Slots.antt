@@ -14,6 +14,10 @@ pub record IsFreeSlot (group : Group) (slot : ℕ) : Type 0 where
   pub known : slot < group.slots
   pub free : bit_at group.used slot ≡ 0
 
+-- each slot below this one holds a block
+abbrev pub IsFullBelow : Group → ℕ → Type 0
+IsFullBelow group bound = (slot : ℕ) → slot < bound → bit_at group.used slot ≡ 1
+
 -- a slot of the group begins at the address
 pub record IsSlotStart (first : ℕ) (group : Group) (at : ℕ) : Type 0 where
   pub slot : ℕ

@@ -15,10 +15,12 @@ use Rattle.plain_heap.specs.Tables.{IsTable}
 
 -- each live block has a slot
 abbrev pub ArePlaced : List (Option Group) → List Event → Type 0
-ArePlaced groups history = (block : Extent) → Contains (state_after empty history).live block → IsPlaced groups block
+ArePlaced groups history =
+    (block : Extent) → Contains (state_after empty history).live block → IsPlaced groups block
 
 -- the calls are legal, their blocks have slots, and their excuses are refusals of theirs
-pub record IsSound (span : Span) (groups : List (Option Group)) (before now : ℕ) (history : List Event) : Type 0 where
+pub record IsSound (span : Span) (groups : List (Option Group)) (before now : ℕ)
+    (history : List Event) : Type 0 where
   pub legal : IsLegal (space_of (4096 * span.size)) history
   pub placed : ArePlaced groups history
   pub used : All (λ excuse. excuse ≤ now) (state_after empty history).used

@@ -20,11 +20,13 @@ pub record IsHome (runs : List Run) (owners : List ℕ) (first pages : ℕ) : Ty
   pub owned : (page : ℕ) → first ≤ page → page < first + pages → slice_index owners page ≡ first
 
 -- each group has a live run, all pages of which tell where it begins
-pub record AreMapped (span : Span) (runs : List Run) (owners : List ℕ) (groups : List (Option Group)) : Type 0 where
+pub record AreMapped (span : Span) (runs : List Run) (owners : List ℕ)
+    (groups : List (Option Group)) : Type 0 where
   pub few : span.size ≤ 16384
   pub owner_count : length owners ≡ span.size
   pub group_count : length groups ≡ span.size
-  pub homes : (first : ℕ) (group : Group) → IsAt groups first group → IsHome runs owners first group.pages
+  pub homes : (first : ℕ) (group : Group) → IsAt groups first group
+      → IsHome runs owners first group.pages
 
 -- the table has the groups of these runs
 abbrev pub IsTable : Span → List Run → Table → Type 0

@@ -60,11 +60,13 @@ impl<M: Mapper> Arena<M> {
     pub fn take(&mut self, n: u64) -> Result<u64, AllocRefusal>
         requires table { IsTable (M.span self.old.mapper) (M.runs self.old.mapper) self.old.table }
         ensures table { IsTable (M.span self.new.mapper) (M.runs self.new.mapper) self.new.table }
-        ensures places { IfOk result (GivesPlace (M.span self.old.mapper) self.old.table self.new.table n) }
+        ensures places { IfOk result
+            (GivesPlace (M.span self.old.mapper) self.old.table self.new.table n) }
         ensures kept { OnErr result (self.new.table ≡ self.old.table) }
 
         ensures too_large { (result ≡ Err AllocRefusal.TooLarge) ↔ (LARGE ≤ n) }
-        ensures excuse { IfErr result (HasExcuse (M.refused self.old.mapper) (M.refused self.new.mapper)) }
+        ensures excuse { IfErr result
+            (HasExcuse (M.refused self.old.mapper) (M.refused self.new.mapper)) }
         ensures calm { OnOk result (M.refused self.new.mapper ≡ M.refused self.old.mapper) }
         ensures most { (M.refused self.new.mapper).most
             ≤ max (max (M.refused self.old.mapper).most 512) (pages_for n) }
@@ -80,12 +82,14 @@ impl<M: Mapper> Arena<M> {
         }
     }
 
-    /// Takes a slot for a block of a size that isn't too large.
+    /// Takes a slot for a block of a size that isn't too large: in an open group of its class, else
+    /// in a new group.
     fn take_slot(&mut self, n: u64) -> Result<u64, Refused>
         requires small { n < LARGE }
         requires table { IsTable (M.span self.old.mapper) (M.runs self.old.mapper) self.old.table }
         ensures table { IsTable (M.span self.new.mapper) (M.runs self.new.mapper) self.new.table }
-        ensures places { IfOk result (GivesPlace (M.span self.old.mapper) self.old.table self.new.table n) }
+        ensures places { IfOk result
+            (GivesPlace (M.span self.old.mapper) self.old.table self.new.table n) }
         ensures kept { OnErr result (self.new.table ≡ self.old.table) }
 
         ensures excuse { IfErr result (λ error. IsNewExcuse
@@ -105,7 +109,8 @@ impl<M: Mapper> Arena<M> {
         }
     }
 
-    /// Gives the slot back whose block begins at this address.
+    /// Gives the slot back whose block begins at this address. In the condition a block of 0 bytes
+    /// stands for one of any size.
     pub fn give_back(&mut self, at: u64)
         requires table { IsTable (M.span self.old.mapper) (M.runs self.old.mapper) self.old.table }
         requires placed { IsPlaced self.old.table.groups.items (extent at 0 16) }
@@ -134,11 +139,13 @@ impl<M: Mapper> Arena<M> {
     /// The lowest free slot of the oldest group of the class that has one.
     fn open_slot(&self, class: u32) -> Option<Spot>
         requires { class < 48 }
-        ensures there { IfSome result (λ spot. IsAt self.now.table.groups.items spot.first spot.group) }
+        ensures there { IfSome result (λ spot.
+            IsAt self.now.table.groups.items spot.first spot.group) }
         ensures free { IfSome result (λ spot. IsFreeSlot spot.group spot.slot) }
         ensures stride { IfSome result (λ spot. spot.group.stride ≡ 16 * units_of class) }
     {
         let first = self.open.oldest(class)?;
+        // The list only points at the group. Its own fields decide.
         let group = self.table.group(first)?;
         if group.class != class {
             return None;
@@ -187,7 +194,8 @@ impl<M: Mapper> Arena<M> {
         ensures excuse { IfErr result (λ error. IsNewExcuse
             (M.refused self.old.mapper).count (M.refused self.new.mapper).count error.number) }
         ensures calm { OnOk result (M.refused self.new.mapper ≡ M.refused self.old.mapper) }
-        ensures most { (M.refused self.new.mapper).most ≤ max (M.refused self.old.mapper).most group.pages }
+        ensures most { (M.refused self.new.mapper).most
+            ≤ max (M.refused self.old.mapper).most group.pages }
         ensures constant { M.span self.new.mapper ≡ M.span self.old.mapper }
     {
         let at = self.mapper.map(group.pages)?;
@@ -206,12 +214,13 @@ impl<M: Mapper> Arena<M> {
         requires there { IsAt self.old.table.groups.items taken.first taken.group }
         requires known { taken.slot < taken.group.slots }
         ensures table { IsTable (M.span self.new.mapper) (M.runs self.new.mapper) self.new.table }
-        ensures frees { FreesPlace self.old.table self.new.table (slot_at taken.first taken.group taken.slot) }
+        ensures frees { FreesPlace self.old.table self.new.table
+            (slot_at taken.first taken.group taken.slot) }
         ensures calm { M.refused self.new.mapper ≡ M.refused self.old.mapper }
         ensures constant { M.span self.new.mapper ≡ M.span self.old.mapper }
     {
         let group = taken.group.without_block(taken.slot);
-        if group.used == 0 {
+        if group.is_empty() {
             self.open.remove(&group);
             self.table.set_group(taken.first, None);
             self.mapper

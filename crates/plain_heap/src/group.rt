@@ -1,4 +1,4 @@
-ghost use Rattle.std.specs.Prelude.{◌≡◌, ◌+◌, ◌-◌, ◌*◌, ◌%◌, ◌^◌, ◌<◌, ◌≤◌, IfSome};
+ghost use Rattle.std.specs.Prelude.{◌≡◌, ◌+◌, ◌-◌, ◌*◌, ◌%◌, ◌^◌, ◌<◌, ◌≤◌, ◌↔◌, IfSome, IsNone, IsTrue};
 ghost use Rattle.ng_terms.specs.Accounts.{pages_for};
 ghost use Rattle.ng_class.specs.Class.{units_of};
 ghost use Rattle.ng_class.specs.Mask.{SetsBit, ClearsBit};
@@ -33,7 +33,7 @@ pub struct Group {
 }
 
 impl Group {
-    ghost use Rattle.plain_heap.specs.Slots.{IsFreeSlot, IsSlotStart, HasShapeOf, slot_at};
+    ghost use Rattle.plain_heap.specs.Slots.{IsFreeSlot, IsFullBelow, IsSlotStart, HasShapeOf, slot_at};
 
     /// An empty group for blocks of this class.
     pub fn of_class(class: u32, born: u64) -> Group
@@ -69,9 +69,18 @@ impl Group {
         }
     }
 
+    /// No slot holds a block.
+    pub fn is_empty(&self) -> bool
+        ensures { IsTrue result ↔ (self.now.used ≡ 0) }
+    {
+        self.used == 0
+    }
+
     /// The lowest slot without a block.
     pub fn free_slot(&self) -> Option<u32>
-        ensures { IfSome result (IsFreeSlot self.now) }
+        ensures free { IfSome result (IsFreeSlot self.now) }
+        ensures lowest { IfSome result (IsFullBelow self.now) }
+        ensures none { IsNone result ↔ IsFullBelow self.now self.now.slots }
     {
         let slot = lowest_bit(!self.used)?;
         if slot < self.slots { Some(slot) } else { None }

@@ -52,7 +52,8 @@ impl<M: Mapper> PlainHeap<M> {
     pub fn open(alloc: Global, mapper: M, entries: usize) -> Result<PlainHeap<M>, (M, Host)>
         requires size { (M.span mapper).size ≤ 16384 }
         requires refusals { (M.refused mapper).count < 2 ^ 64 - 1 }
-        ensures fresh { IfOk result (λ heap. heap ≡ fresh entries (M.span mapper) (M.refused mapper)) }
+        ensures fresh { IfOk result (λ heap.
+            heap ≡ fresh entries (M.span mapper) (M.refused mapper)) }
         ensures handed_back { IfErr result (λ error. error.0 ≡ mapper) }
     {
         let before = mapper.refusals();
@@ -72,10 +73,12 @@ impl<M: Mapper> PlainHeap<M> {
     pub fn malloc(&mut self, caller: u32, n: u64) -> Result<u64, AllocRefusal>
         requires { 1 ≤ self.old.spare }
         ensures given { IfOk result (λ at. Enters self.old self.new caller (Entry.Give n 16 at)) }
-        ensures legal { IfOk result (λ at. MayGive (space_in self.old) (live_in self.old) (extent at n 16)) }
+        ensures legal { IfOk result (λ at.
+            MayGive (space_in self.old) (live_in self.old) (extent at n 16)) }
         ensures calm { OnOk result (self.new.now ≡ self.old.now) }
 
-        ensures refused { IfErr result (λ why. Enters self.old self.new caller (refusal_entry n why)) }
+        ensures refused { IfErr result (λ why.
+            Enters self.old self.new caller (refusal_entry n why)) }
         ensures too_large { (result ≡ Err AllocRefusal.TooLarge) ↔ IsTooLarge 1 n 16 }
         ensures excuse { IfErr result (HasExcuse self.old.now self.new.now) }
         ensures most { self.new.now.most ≤ max (max self.old.now.most 512) (pages_for n) }

@@ -1,8 +1,4 @@
-use Rattle.std.proofs.Common.{◌≡◌, ◌≤◌, ℕ, ◌+◌, ◌*◌, List, Option, Some, set, sym, arith, subst}
-use Rattle.ng_terms.specs.Heap.{extent}
-use Rattle.plain_heap.specs.declared.group.Group.{Group}
-use Rattle.plain_heap.specs.Slots.{slot_at, Places}
-use Rattle.plain_heap.specs.Tables.{AreMapped}
+use Rattle.std.proofs.Common.{arith}
 use Rattle.plain_heap.proofs.TableLemmas.{IsInside, IsInside-at, AreMapped-marks}
 use Rattle.plain_heap.proofs.PlaceLemmas.{Places-slot}
 use Rattle.plain_heap.proofs.arena.Arena.fill.Goals as goal

@@ -1,9 +1,9 @@
-use Rattle.std.proofs.Common.{◌≡◌, ◌≤◌, ℕ, ◌+◌, ◌*◌, ◌/◌, List, Option, Some, set, sym, arith, subst}
+use Rattle.std.proofs.Common.{◌≡◌, ℕ, ◌+◌, ◌*◌, ◌/◌, Some, set, sym, arith, subst}
 use Rattle.std.specs.Prelude.{IsPermutation, ◌∷◌}
 use Rattle.ng_terms.specs.Heap.{extent}
 use Rattle.ng_mapper.specs.Mapping.{IsFree}
 use Rattle.plain_heap.specs.Slots.{Places}
-use Rattle.plain_heap.specs.Tables.{OwnsPages, AreMapped}
+use Rattle.plain_heap.specs.Tables.{OwnsPages}
 use Rattle.plain_heap.proofs.TableLemmas.{AreMapped-map}
 use Rattle.plain_heap.proofs.PlaceLemmas.{Places-run}
 use Rattle.plain_heap.proofs.arena.Arena.map_group.Goals as goal

@@ -1,4 +1,4 @@
-use Rattle.std.proofs.Common.{◌≡◌, ℕ, Option, Some, None, IsSome, get_or, refl, sym, ap, ◌∙◌, subst}
+use Rattle.std.proofs.Common.{◌≡◌, ℕ, Option, Some, None, IsSome, get_or, refl, sym, ◌∙◌, subst}
 use Rattle.ng_terms.specs.Heap.{extent}
 use Rattle.plain_heap.specs.declared.group.Group.{Group}
 use Rattle.plain_heap.specs.Slots.{IsSlotStart}

@@ -1,4 +1,4 @@
-use Rattle.std.proofs.Common.{◌≡◌, ◌≤◌, ◌<◌, ◌++◌, ◌∷◌, [], arith, subst, sym}
+use Rattle.std.proofs.Common.{arith, subst, sym}
 use Rattle.ng_terms.specs.Heap.{empty, IsLive}
 use Rattle.ng_terms.specs.Histories.{state_after}
 use Rattle.plain_heap.specs.Plain.{Shown}

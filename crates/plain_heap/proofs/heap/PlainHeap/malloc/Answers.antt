@@ -1,4 +1,4 @@
-use Rattle.std.proofs.Common.{◌≤◌, arith}
+use Rattle.std.proofs.Common.{arith}
 use Rattle.plain_heap.proofs.SoundLemmas.{IsSound-request}
 use Rattle.plain_heap.proofs.heap.PlainHeap.malloc.Goals as goal
 
