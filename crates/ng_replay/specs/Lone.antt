@@ -2,6 +2,7 @@
 use Rattle.std.specs.Prelude.{◌≡◌, ◌≢◌, ◌⊎◌, ℕ, ◌+◌, ◌<◌, ◌≤◌, max, List, [], ◌∷◌, Option, Some, None, length, slice_get, slice_index_or, All}
 use Rattle.ng_terms.specs.declared.entry.Extent.{Extent}
 use Rattle.ng_terms.specs.declared.plan.Op.{Op}
+use Rattle.ng_terms.specs.declared.plan.Op.TheVariants.{Make, Free, Move}
 use Rattle.ng_terms.specs.declared.plan.Origin.{Origin}
 use Rattle.ng_terms.specs.declared.plan.Origin.TheVariants.{Own, Claim, Skip}
 use Rattle.ng_terms.specs.declared.reply.Reply.{Reply}
@@ -47,3 +48,12 @@ pub record AreHeld (ops : List Op) (done : ℕ) (replies : List Reply) (live : L
 abbrev pub MostForOps : ℕ → ℕ → List Op → Type 0
 MostForOps before now ops = (now ≤ max before 512)
     ⊎ ((i : ℕ) × (op : Op) × (slice_get ops i ≡ Some op) × (size_of op < large) × (now ≤ pages_for (size_of op)))
+
+-- a make that hands nothing off, or a free of a block of its own log
+abbrev pub IsPlainOp : Op → Type 0
+IsPlainOp (Make name size None) = Unit {0}
+IsPlainOp (Make name size (Some number)) = ⊥
+IsPlainOp (Free name (Own op)) = Unit {0}
+IsPlainOp (Free name (Claim number)) = ⊥
+IsPlainOp (Free name Skip) = ⊥
+IsPlainOp (Move old name origin size to) = ⊥

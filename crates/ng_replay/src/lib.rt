@@ -5,6 +5,7 @@ mod heap;
 mod lone;
 mod make;
 mod op;
+mod plain;
 
 pub use heap::SequentialHeap;
 pub use lone::serial_alone;

@@ -1,0 +1,6 @@
+pub mod FirstLemmas
+pub mod FirstSound
+pub mod KnownLemmas
+pub mod MakerLemmas
+pub mod SortedLemmas
+pub mod TableLemmas

@@ -1,0 +1,12 @@
+//! Plans of logs: which block each op takes, what is handed to another log, and whose turn comes next.
+#![tactic(auto)]
+
+mod first;
+mod mentions;
+mod names;
+
+pub use first::first_plan;
+pub use ng_terms::{Op, Origin, Plan};
+
+#[cfg(test)]
+mod tests;

@@ -1,0 +1,5 @@
+pub mod SlotLemmas
+pub mod TableLemmas
+pub mod PlaceLemmas
+pub mod ExcuseLemmas
+pub mod SoundLemmas
