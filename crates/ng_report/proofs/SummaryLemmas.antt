@@ -14,11 +14,11 @@ use Rattle.ng_report.specs.Kinds.{gives, takes, resizes, lacks_memory, is_oversi
 use Rattle.ng_report.specs.Room.{HasReplies}
 
 -- a test of entries that holds of at most one entry of each reply, and of one where the test of replies holds
-pub record Counts (mode : Mode) (of_entry : Entry → Bool) (of_reply : Reply → Bool) : Type 0 where
+pub record CountsAlike (mode : Mode) (of_entry : Entry → Bool) (of_reply : Reply → Bool) : Type 0 where
   pub each : (size : ℕ) (reply : Reply) → count_by of_entry (calls_for mode size reply) ≡ cond (of_reply reply) 1 0
 
 -- of one log
-pub count_by-calls_of_log : (mode : Mode) (of_entry : Entry → Bool) (of_reply : Reply → Bool) → Counts mode of_entry of_reply
+pub count_by-calls_of_log : (mode : Mode) (of_entry : Entry → Bool) (of_reply : Reply → Bool) → CountsAlike mode of_entry of_reply
     → (ops : List Op) (replies : List Reply) → length replies ≡ length ops
     → count_by of_entry (calls_of_log mode ops replies) ≡ count_by of_reply replies
 count_by-calls_of_log mode of_entry of_reply same [] [] long = refl
@@ -32,7 +32,7 @@ count_by-calls_of_log mode of_entry of_reply same (op ∷ ops) (reply ∷ replie
     cc
 
 -- of all logs
-pub count_by-entries_of : (mode : Mode) (of_entry : Entry → Bool) (of_reply : Reply → Bool) → Counts mode of_entry of_reply
+pub count_by-entries_of : (mode : Mode) (of_entry : Entry → Bool) (of_reply : Reply → Bool) → CountsAlike mode of_entry of_reply
     → (logs : List (List Op)) (replies : List (List Reply)) → HasReplies logs replies
     → count_by of_entry (entries_of mode logs replies) ≡ replies_with of_reply replies
 count_by-entries_of mode of_entry of_reply same [] [] answered = refl

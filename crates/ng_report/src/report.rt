@@ -46,7 +46,9 @@ pub fn render(
     requires answered { HasReplies plan.now.logs replies.now }
     requires ops { op_count plan.now.logs < 2 ^ 64 }
     requires room { vec_len text.old + room_of plan.now calls_shown ≤ vec_capacity text.old }
-    ensures { text.new.items ≡ text.old.items ++ report plan.now mode calls_shown replies.now pages }
+    ensures items { text.new.items ≡ text.old.items ++ report plan.now mode calls_shown replies.now pages }
+    ensures short { vec_len text.new ≤ vec_len text.old + room_of plan.now calls_shown }
+    ensures room { vec_capacity text.old ≤ vec_capacity text.new }
 {
     let logs = plan.logs.as_slice();
     if calls_shown {

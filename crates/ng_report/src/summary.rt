@@ -24,6 +24,8 @@ fn put_count(text: &mut Vec<u8>, word: &[u8], n: u64)
 pub fn put_summary(text: &mut Vec<u8>, logs: u64, counts: &Counts, pages: u64)
     requires { vec_len text.old + SUMMARY ≤ vec_capacity text.old }
     ensures items { text.new.items ≡ text.old.items ++ summary_of logs counts.now pages }
+    ensures short { vec_len text.new ≤ vec_len text.old + SUMMARY }
+    ensures room { vec_capacity text.old ≤ vec_capacity text.new }
 {
     put_count(text, b"logs", logs);
     put_count(text, b"calls", counts.calls);

@@ -7,8 +7,8 @@ use Rattle.ng_report.proofs.report.render.Goals.{then-calls_shown, else-calls_sh
 pub count_replies-requires : goal.count_replies-requires
 count_replies-requires c = omega (arith, reply_count-is c.args.plan.now.logs c.args.replies.now c.requires.answered, c.requires.ops)
 
-pub returns : goal.returns
-returns c =
+pub returns-clause-items : goal.returns-clause-items
+returns-clause-items c =
     let calls : c.if-calls_shown.text.items
     ≡ c.args.text.now.items ++ (if c.args.calls_shown then call_lines c.args.mode c.as_slice-logs.result.now c.args.replies.now else []) =
     elim c.if-calls_shown.branch [
