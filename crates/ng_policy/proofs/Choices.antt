@@ -1,8 +1,8 @@
 -- The numbers of slots that musl's tables offer are ones that the classes may have.
-use Rattle.std.proofs.Common.{◌≡◌, ℕ, zero, suc, ◌+◌, ◌-◌, ◌*◌, ◌/◌, ◌%◌, ◌<◌, ◌≤◌, Bool, true, false, refl, List, [], ◌∷◌, length, get_or, arith, nat_le, nat_lt, unwrap_or, ◌&&◌, ⊎_elim, Option, Some, None}
+use Rattle.std.proofs.Common.{◌≡◌, ℕ, zero, suc, ◌-◌, ◌*◌, ◌/◌, ◌<◌, ◌≤◌, Bool, true, refl, List, [], ◌∷◌, length, get_or, arith, nat_le, unwrap_or, ◌&&◌, ⊎_elim, Option, Some, None}
 use Rattle.std.proofs.lemmas.Bool.{agree_below_at, leb-true, cases_lt, lt-ltb, le-ltb}
 use Rattle.std.proofs.lemmas.Grind.{common_steps}
-use Rattle.std.specs.List.{list_all, find, slice_index_or}
+use Rattle.std.specs.List.{list_all, find}
 use Rattle.std.specs.Option.{option_map}
 use Rattle.std.proofs.Math.Nat.{mul-le-mul_right}
 use Rattle.ng_class.proofs.Classes.{units_of_le}

@@ -1,5 +1,5 @@
 -- How often the classes 7 to 38 bounce.
-use Rattle.std.specs.Prelude.{◌≡◌, ◌+◌, ◌-◌, ◌<◌, ◌≤◌, ◌==◌, ◌&&◌, ℕ, List, Bool, if◌then◌else◌, nat_lt, nat_le, not, replicate, slice_index, slice_set}
+use Rattle.std.specs.Prelude.{◌+◌, ◌-◌, ◌≤◌, ◌==◌, ◌&&◌, ℕ, List, Bool, if◌then◌else◌, nat_lt, nat_le, not, replicate, slice_index, slice_set}
 
 -- the mappings and unmappings so far, counted round; for the classes from 7 on, when each was last
 -- stamped, or 0, and how often it bounced

@@ -1,5 +1,5 @@
 -- The choices of musl: how many slots a group has, and whether an empty one is kept.
-use Rattle.std.specs.Prelude.{◌≡◌, ◌+◌, ◌-◌, ◌*◌, ◌/◌, ◌%◌, ◌<◌, ◌≤◌, ◌==◌, ◌&&◌, ℕ, List, [], ◌∷◌, Bool, true, false, not, length, slice_index, slice_index_or, find, unwrap_or, if◌then◌else◌, nat_lt, nat_le}
+use Rattle.std.specs.Prelude.{◌≡◌, ◌+◌, ◌-◌, ◌*◌, ◌/◌, ◌%◌, ◌<◌, ◌≤◌, ◌==◌, ◌&&◌, ℕ, List, [], ◌∷◌, Bool, true, not, length, slice_index, slice_index_or, find, unwrap_or, if◌then◌else◌, nat_lt, nat_le}
 use Rattle.ng_class.specs.Class.{units_of}
 use Rattle.ng_policy.specs.declared.ask.Ask.{Ask}
 use Rattle.ng_policy.specs.declared.ask.Spare.{Spare}

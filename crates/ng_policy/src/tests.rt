@@ -1,8 +1,8 @@
-ghost use Rattle.std.specs.Prelude.{◌≡◌, false};
+ghost use Rattle.std.specs.Prelude.{◌≡◌, IfSome, false};
 ghost use Rattle.ng_policy.specs.Ask.{AskInRange, IsCount};
 
 use super::*;
-use std::sync::{Mutex, Wait};
+use std::sync::Mutex;
 
 /// The ask for a class that isn't bouncing and has no neighbour.
 fn ask_of(class: u32, usage: u64) -> Ask
@@ -201,14 +201,14 @@ fn bounces_of_300_turns(rt: HostRuntime) {
 }
 
 /// The answer of rules behind a lock: the fact comes out of it with them.
-fn locked_count<P: Rules + Drop>(rt: &impl Wait, rules: P, ask: Ask) -> u32
+fn locked_count<P: Rules + Drop>(rules: P, ask: Ask) -> Option<u32>
     requires good { P.good rules }
     requires ask { AskInRange ask }
-    ensures { IsCount ask.class result }
+    ensures { IfSome result (IsCount ask.class) }
 {
     let shared = Mutex::new(Kept::new(rules));
-    let count = shared.lock(rt).count(ask);
-    count
+    let count = shared.try_lock()?.count(ask);
+    Some(count)
 }
 
 #[test]
@@ -218,7 +218,7 @@ fn stored_policies(rt: HostRuntime) {
     assert_eq!(rt; capped_policy_counts(ask, 16), 16);
     assert_eq!(rt; capped_policy_counts(ask, 15), 15);
     assert_eq!(rt;
-        locked_count(&rt, Policy::new(musl_count, musl_keep), ask),
-        16
+        locked_count(Policy::new(musl_count, musl_keep), ask),
+        Some(16)
     );
 }
