@@ -44,7 +44,7 @@ fitting units slots =
     else if nat_lt (units * (slots / 2)) 65536 then slots / 2
     else slots / 4
 
--- the choice for a class of this usage
+-- the choice for a class of this usage; from class 9 on, so many that their units are below 65536
 unfoldable pub chosen : ℕ → ℕ → ℕ
 chosen class usage =
     let slots = first_choice (choices_of class) usage in

@@ -1,6 +1,5 @@
 //! The choices of musl.
-ghost use Rattle.std.specs.Prelude.{◌≡◌, ◌<◌, ◌≤◌, ◌*◌, ◌^◌, ◌↔◌, IsTrue, length};
-ghost use Rattle.ng_class.specs.Class.{units_of};
+ghost use Rattle.std.specs.Prelude.{◌≡◌, ◌<◌, ◌≤◌, ◌^◌, ◌↔◌, IsTrue, length};
 ghost use Rattle.ng_policy.specs.Ask.{AskInRange, IsCount};
 ghost use Rattle.ng_policy.specs.Musl.{choices_of, first_choice, fitting, chosen, paired, is_sparse, thinned, musl_slots, IsWorthKeeping};
 
@@ -53,7 +52,7 @@ pub fn musl_keep(spare: Spare) -> bool
     spare.alone && spare.bouncing && !small
 }
 
-// The choice for a class of this usage.
+// The choice for a class of this usage, halved where it is too many.
 #[tactic(auto, unfolding(crate::specs::Musl::chosen))]
 fn chosen_slots(class: u32, usage: u64) -> u32
     requires class { class < 48 }

@@ -1,6 +1,5 @@
 //! Rules of two closures.
 ghost use Rattle.std.specs.Prelude.{◌≡◌};
-ghost use Rattle.ng_policy.specs.Ask.{AskInRange, SpareInRange, IsCount};
 ghost use Rattle.ng_policy.specs.Policy.{Counts, Keeps};
 
 use crate::ask::{Ask, Spare};
