@@ -1,9 +1,8 @@
 -- The numbers of slots that musl's tables offer are ones that the classes may have.
-use Rattle.std.proofs.Common.{◌≡◌, ℕ, zero, suc, ◌+◌, ◌-◌, ◌*◌, ◌/◌, ◌%◌, ◌<◌, ◌≤◌, Bool, true, false, refl, List, [], ◌∷◌, length, get_or, arith, nat_le, nat_lt, unwrap_or, ◌&&◌, ⊎_elim, Option, Some, None}
+use Rattle.std.proofs.Common.{◌≡◌, ℕ, zero, suc, ◌-◌, ◌*◌, ◌/◌, ◌<◌, ◌≤◌, Bool, true, refl, List, [], ◌∷◌, length, get_or, arith, nat_le, unwrap_or, ◌&&◌, ⊎_elim}
 use Rattle.std.proofs.lemmas.Bool.{agree_below_at, leb-true, cases_lt, lt-ltb, le-ltb}
 use Rattle.std.proofs.lemmas.Grind.{common_steps}
-use Rattle.std.specs.List.{list_all, find, slice_index_or}
-use Rattle.std.specs.Option.{option_map}
+use Rattle.std.specs.List.{list_all, find}
 use Rattle.std.proofs.Math.Nat.{mul-le-mul_right}
 use Rattle.ng_class.proofs.Classes.{units_of_le}
 use Rattle.ng_class.specs.Class.{unit_table, units_of}
@@ -86,8 +85,3 @@ allowed_fitting class slots known some most =
     (λ (still : 65536 ≤ units_of class * (slots / 2)). rw (le-ltb _ _ still) (record { some = omega arith; most = omega arith; fits = omega arith }))
     (cases_lt (units_of class * (slots / 2)) 65536)))
     (cases_lt (units_of class * slots) 65536)
-
--- an option whose value is passed on as it is
-pub unwrap_or-option_map_same : (found same : Option ℕ) (d : ℕ) → option_map (λ x. x) found ≡ same → unwrap_or found d ≡ unwrap_or same d
-unwrap_or-option_map_same None same d e = rw (← e) refl
-unwrap_or-option_map_same (Some x) same d e = rw (← e) refl

@@ -17,7 +17,8 @@ pub record SpareInRange (spare : Spare) : Type 0 where
   pub most : spare.slots ≤ 32
   pub usage : spare.usage < 2 ^ 32
 
--- a group of the class may have so many slots: a mask has a bit for each, and their units are below 65536
+-- a group of the class may have so many slots: a mask of 32 bits has one for each, and their units
+-- are below 65536
 pub record IsCount (class slots : ℕ) : Type 0 where
   pub some : 1 ≤ slots
   pub most : slots ≤ 32

@@ -1,7 +1,8 @@
 -- How often the classes 7 to 38 bounce.
-use Rattle.std.specs.Prelude.{◌≡◌, ◌+◌, ◌-◌, ◌<◌, ◌≤◌, ◌==◌, ◌&&◌, ℕ, List, Bool, if◌then◌else◌, nat_lt, nat_le, not, replicate, slice_index, slice_set}
+use Rattle.std.specs.Prelude.{◌+◌, ◌-◌, ◌≤◌, ◌==◌, ◌&&◌, ℕ, List, Bool, if◌then◌else◌, nat_lt, nat_le, not, replicate, slice_index, slice_set}
 
--- the mappings so far, counted round; when each class was last stamped, or 0; and how often each bounced
+-- the mappings and unmappings so far, counted round; for the classes from 7 on, when each was last
+-- stamped, or 0, and how often it bounced
 pub record Bounces : Type 0 where
   pub seq : ℕ
   pub last : List ℕ
@@ -28,7 +29,7 @@ count_of bounces class = slice_index bounces.count (class - 7)
 abbrev pub no_bounces : Bounces
 no_bounces = record { seq = 0; last = replicate 32 0; count = replicate 32 0 }
 
--- one more mapping: after the 255th the stamps are taken away, and seq goes on from 1
+-- one mapping or unmapping more: after the 255th the stamps are taken away, and seq goes on from 1
 unfoldable pub stepped : Bounces → Bounces
 stepped bounces =
     if bounces.seq == 255 then record bounces { seq = 1; last = replicate 32 0 }
@@ -40,7 +41,7 @@ stamped bounces class =
     if is_watched class then record bounces { last = slice_set bounces.last (class - 7) bounces.seq }
     else bounces
 
--- the class was stamped fewer than 10 mappings ago
+-- the class was stamped fewer than 10 steps ago
 abbrev pub is_recent : Bounces → ℕ → Bool
 is_recent bounces class =
     not (last_of bounces class == 0) && nat_lt (bounces.seq - last_of bounces class) 10
@@ -53,7 +54,9 @@ raised count = if nat_lt (count + 1) 100 then count + 1 else 150
 unfoldable pub accounted : Bounces → ℕ → Bounces
 accounted bounces class =
     if is_watched class && is_recent bounces class
-    then record bounces { count = slice_set bounces.count (class - 7) (raised (count_of bounces class)) }
+    then record bounces {
+      count = slice_set bounces.count (class - 7) (raised (count_of bounces class));
+    }
     else bounces
 
 -- one bounce less, if there is any
@@ -68,6 +71,6 @@ pub record IsBouncing (bounces : Bounces) (class : ℕ) : Type 0 where
   pub watched : IsWatched class
   pub often : 100 ≤ count_of bounces class
 
--- no class was stamped after the last mapping
+-- no class was stamped after the last step
 abbrev pub AreStampsPast : List ℕ → ℕ → Type 0
 AreStampsPast last seq = (place : ℕ) → slice_index last place ≤ seq

@@ -1,4 +1,4 @@
--- When a block goes to the next class, which has fewer sizes in between.
+-- When a block goes to the next class.
 use Rattle.std.specs.Prelude.{◌≡◌, ◌≢◌, ◌+◌, ◌%◌, ◌≤◌, ℕ, Bool, true, false}
 
 -- what is added to the usage of the next class: 3, unless it has a slot ready
@@ -13,9 +13,10 @@ pub record IsFine (class : ℕ) : Type 0 where
   pub to : class ≤ 30
   pub other : class ≢ 6
 
--- a block of the class goes to the next: the class is fine and nothing of it is live or in its ring, and
--- few slots of the next class are live
-pub record GoesUp (class : ℕ) (has_group : Bool) (usage next_usage : ℕ) (next_ready : Bool) : Type 0 where
+-- a block of the class goes to the next: the class is fine, no group of it is live or in its ring,
+-- and few slots of the next are live
+pub record GoesUp (class : ℕ) (has_group : Bool) (usage next_usage : ℕ) (next_ready : Bool)
+    : Type 0 where
   pub fine : IsFine class
   pub no_group : has_group ≡ false
   pub unused : usage ≡ 0

@@ -1,5 +1,5 @@
 -- The choices of musl: how many slots a group has, and whether an empty one is kept.
-use Rattle.std.specs.Prelude.{◌≡◌, ◌+◌, ◌-◌, ◌*◌, ◌/◌, ◌%◌, ◌<◌, ◌≤◌, ◌==◌, ◌&&◌, ℕ, List, [], ◌∷◌, Bool, true, false, not, length, slice_index, slice_index_or, find, unwrap_or, if◌then◌else◌, nat_lt, nat_le}
+use Rattle.std.specs.Prelude.{◌≡◌, ◌+◌, ◌-◌, ◌*◌, ◌/◌, ◌%◌, ◌<◌, ◌≤◌, ◌==◌, ◌&&◌, ℕ, List, [], ◌∷◌, Bool, true, not, length, slice_index, slice_index_or, find, unwrap_or, if◌then◌else◌, nat_lt, nat_le}
 use Rattle.ng_class.specs.Class.{units_of}
 use Rattle.ng_policy.specs.declared.ask.Ask.{Ask}
 use Rattle.ng_policy.specs.declared.ask.Spare.{Spare}
@@ -28,27 +28,29 @@ medium_table =
 -- the numbers of slots to choose from, for any class
 abbrev pub choices_of : ℕ → List ℕ
 choices_of class =
-    if nat_lt class 9 then slice_index_or small_table class [] else slice_index_or medium_table (class % 4) []
+    if nat_lt class 9 then slice_index_or small_table class []
+    else slice_index_or medium_table (class % 4) []
 
 -- the first choice that is at most a quarter of the usage, or the last
 abbrev pub first_choice : List ℕ → ℕ → ℕ
 first_choice choices usage =
-    unwrap_or (find (λ slots. nat_le (4 * slots) usage) choices) (slice_index choices (length choices - 1))
+    unwrap_or (find (λ slots. nat_le (4 * slots) usage) choices)
+    (slice_index choices (length choices - 1))
 
--- the slots, or half or a quarter of them, where their units are below 65536 (at 8191 units 8 slots are)
+-- the slots, or half or a quarter of them, so that their units are below 65536 (those of 8 slots are)
 abbrev pub fitting : ℕ → ℕ → ℕ
 fitting units slots =
     if nat_lt (units * slots) 65536 then slots
     else if nat_lt (units * (slots / 2)) 65536 then slots / 2
     else slots / 4
 
--- the choice for a class of this usage
+-- the choice for a class of this usage; from class 9 on, so many that their units are below 65536
 unfoldable pub chosen : ℕ → ℕ → ℕ
 chosen class usage =
     let slots = first_choice (choices_of class) usage in
     if nat_lt class 9 then slots else fitting (units_of class) slots
 
--- no group in another's slot is a single slot: where its 16 bytes and one slot are at most 2048 bytes it has two
+-- two slots in place of one that fits, with the group's 16 bytes, into 2048 bytes
 abbrev pub paired : ℕ → ℕ → ℕ
 paired class slots = if slots == 1 && nat_le (16 * units_of class + 16) 2048 then 2 else slots
 
@@ -56,10 +58,12 @@ paired class slots = if slots == 1 && nat_le (16 * units_of class + 16) 2048 the
 abbrev pub bytes_of : ℕ → ℕ → ℕ
 bytes_of class slots = 16 * units_of class * slots
 
--- the group would be mapped by itself, few slots of its class and of the next are live, and the class isn't bouncing
+-- the group has more than 2048 bytes, few slots of its class and of the next are live, and the class
+-- isn't bouncing
 abbrev pub is_sparse : Ask → ℕ → Bool
 is_sparse ask slots =
-    nat_lt 2048 (bytes_of ask.class slots + 16) && nat_lt (ask.usage + ask.near) (4 * slots) && not ask.bouncing
+    nat_lt 2048 (bytes_of ask.class slots + 16) && nat_lt (ask.usage + ask.near) (4 * slots)
+    && not ask.bouncing
 
 -- the slots of such a group: few where it would be large
 unfoldable pub thinned : ℕ → ℕ → ℕ
@@ -76,7 +80,7 @@ musl_slots ask =
     let slots = paired ask.class (chosen ask.class ask.usage) in
     if is_sparse ask slots then thinned ask.class slots else slots
 
--- a group of few slots is much less than its class: 9 times its slots are at most the usage
+-- the group has few slots, and they are at most a ninth of the usage
 pub record IsSmallPart (spare : Spare) : Type 0 where
   pub part : 9 * spare.slots ≤ spare.usage
   pub few : spare.slots < 20

@@ -1,6 +1,6 @@
-//! Which classes bounce: their groups are unmapped, and soon mapped again.
+//! Which classes bounce: their groups are often unmapped and soon mapped again.
 ghost use Rattle.std.specs.Prelude.{◌≡◌, ◌+◌, ◌↔◌, IsTrue, IsSome, IfSome};
-ghost use Rattle.ng_policy.specs.Bounce.{Bounces, no_bounces, stepped, stamped, accounted, decayed, IsWatched, IsBouncing};
+ghost use Rattle.ng_policy.specs.Bounce.{no_bounces, stepped, stamped, accounted, decayed, IsWatched, IsBouncing};
 
 use std::marker::Model;
 
@@ -10,7 +10,7 @@ const FIRST: u32 = 7;
 /// The last class that is watched.
 const LAST: u32 = 38;
 
-/// Counts of how often the classes 7 to 38 bounce. Contracts see a record of seq, last and count.
+/// How often the classes 7 to 38 bounced. Contracts see a record of seq, last and count.
 #[derive(Debug, Drop)]
 pub struct Bounce {
     seq: u8,

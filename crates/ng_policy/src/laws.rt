@@ -8,7 +8,7 @@ use crate::musl::{musl_count, musl_keep};
 use crate::policy::Policy;
 use crate::rules::{Kept, Rules};
 
-/// Rules count when they are stored as they do before.
+/// Rules that are stored count as they do by themselves.
 pub fn stored_count<P: Rules + Drop>(rules: P, ask: Ask) -> u32
     requires good { P.good rules }
     requires ask { AskInRange ask }
@@ -18,7 +18,7 @@ pub fn stored_count<P: Rules + Drop>(rules: P, ask: Ask) -> u32
     Kept::new(rules).count(ask)
 }
 
-/// Rules keep when they are stored what they do before.
+/// Rules that are stored keep what they do by themselves.
 pub fn stored_keep<P: Rules + Drop>(rules: P, spare: Spare) -> bool
     requires good { P.good rules }
     requires spare { SpareInRange spare }
@@ -43,7 +43,7 @@ pub fn musl_policy_keeps(spare: Spare) -> bool
     stored_keep(Policy::new(musl_count, musl_keep), spare)
 }
 
-/// A policy may hold closures that capture: here the most slots of a group.
+/// A policy may hold closures that capture: here the most slots that a group may have.
 pub fn capped_policy_counts(ask: Ask, most: u32) -> u32
     requires ask { AskInRange ask }
     requires most { 1 ≤ most }

@@ -1,13 +1,12 @@
 //! The choices of musl.
-ghost use Rattle.std.specs.Prelude.{◌≡◌, ◌<◌, ◌≤◌, ◌*◌, ◌^◌, ◌↔◌, IsTrue, length};
-ghost use Rattle.ng_class.specs.Class.{units_of};
+ghost use Rattle.std.specs.Prelude.{◌≡◌, ◌<◌, ◌≤◌, ◌^◌, ◌↔◌, IsTrue, length};
 ghost use Rattle.ng_policy.specs.Ask.{AskInRange, IsCount};
 ghost use Rattle.ng_policy.specs.Musl.{choices_of, first_choice, fitting, chosen, paired, is_sparse, thinned, musl_slots, IsWorthKeeping};
 
 use crate::ask::{Ask, Spare};
 use ng_class::{UNIT, units};
 
-/// The numbers of slots to choose from, for the classes 0 to 8.
+// The numbers of slots to choose from, for the classes 0 to 8.
 static SMALL: [[u8; 3]; 9] = [
     [30, 30, 30],
     [31, 15, 15],
@@ -20,7 +19,8 @@ static SMALL: [[u8; 3]; 9] = [
     [28, 14, 6],
 ];
 
-/// The same for the higher classes, by the class modulo 4: a number and its halves, down to an odd one.
+// The same for the higher classes, by the class modulo 4: a number and its halves, down to an odd
+// one.
 static MEDIUM: [&[u8]; 4] = [
     &[28, 14, 7],
     &[24, 12, 6, 3],
@@ -52,7 +52,7 @@ pub fn musl_keep(spare: Spare) -> bool
     spare.alone && spare.bouncing && !small
 }
 
-// The choice for a class of this usage.
+// The choice for a class of this usage, halved where it is too many.
 #[tactic(auto, unfolding(crate::specs::Musl::chosen))]
 fn chosen_slots(class: u32, usage: u64) -> u32
     requires class { class < 48 }
@@ -106,7 +106,7 @@ fn halved(units: u64, slots: u32) -> u32
     slots
 }
 
-// Two slots in place of one where a group of one would be nested.
+// Two slots in place of one that fits, with the group's 16 bytes, into 2048 bytes.
 fn paired_slots(class: u32, slots: u32) -> u32
     requires class { class < 48 }
     requires slots { IsCount class slots }
@@ -120,7 +120,8 @@ fn paired_slots(class: u32, slots: u32) -> u32
     }
 }
 
-// Whether the group would be mapped, and few slots of its class and of the next are live.
+// Whether the group has more than 2048 bytes, few slots of its class and of the next are live, and
+// the class isn't bouncing.
 fn is_sparse(ask: Ask, slots: u32) -> bool
     requires ask { AskInRange ask }
     requires slots { IsCount ask.class slots }
@@ -130,7 +131,7 @@ fn is_sparse(ask: Ask, slots: u32) -> bool
     bytes + UNIT > 2048 && 4 * u64::from(slots) > ask.usage + ask.near && !ask.bouncing
 }
 
-// The slots of a sparse group: few where it would be large.
+// The slots of such a group: few where it would be large.
 #[tactic(auto, unfolding(crate::specs::Musl::thinned))]
 fn thinned_slots(class: u32, slots: u32) -> u32
     requires class { class < 48 }

@@ -2,10 +2,12 @@
 ghost use Rattle.std.specs.Prelude.{◌≡◌, ◌≢◌, ◌+◌, ◌<◌, ◌^◌, ◌↔◌};
 ghost use Rattle.ng_policy.specs.Coarse.{GoesUp};
 
-/// The class that serves a block whose least class this is: the next, where nothing of the class is there and the
-/// next has few slots; else the class. `has_group`: the ring of the class isn't empty. `usage`, `next_usage`: the
-/// slots of the live groups of the class and of the next. `next_ready`: the first group in the next class's ring
-/// has a free slot.
+/// The class that serves a block of this least class: the next, where no group of the class is live
+/// and the next has few slots; else the class itself.
+///
+/// `has_group`: the ring of the class isn't empty. `usage` and `next_usage`: the slots of all live
+/// groups of the class and of the next. `next_ready`: the first group in the ring of the next has a
+/// free slot.
 pub fn coarse(class: u32, has_group: bool, usage: u64, next_usage: u64, next_ready: bool) -> u32
     requires class { class < 48 }
     requires usage { usage < 2 ^ 32 }

@@ -1,6 +1,5 @@
 //! Rules of two closures.
 ghost use Rattle.std.specs.Prelude.{◌≡◌};
-ghost use Rattle.ng_policy.specs.Ask.{AskInRange, SpareInRange, IsCount};
 ghost use Rattle.ng_policy.specs.Policy.{Counts, Keeps};
 
 use crate::ask::{Ask, Spare};
@@ -9,13 +8,16 @@ use crate::rules::Rules;
 /// Two closures that decide about groups.
 #[derive(Drop)]
 pub struct Policy<C, K> {
+    /// How many slots a new group has.
     pub count: C,
+    /// Whether a group whose slots are all free is kept.
     pub keep: K,
 }
 
 impl<C: Fn(Ask) -> u32, K: Fn(Spare) -> bool> Policy<C, K> {
-    /// The policy of these closures. The first answers each ask in range with a number from 1 to 32, so
-    /// that the slots have fewer than 65536 units together; the second answers each spare in range.
+    /// The policy of these closures. The first must answer each ask in range, with a number of slots
+    /// from 1 to 32 that have fewer than 65536 units together. The second must answer each spare in
+    /// range.
     pub fn new(count: C, keep: K) -> Policy<C, K>
         requires counts { Counts C.pre C.post count }
         requires keeps { Keeps K.pre keep }

@@ -18,7 +18,7 @@ pub trait Rules {
     /// What `keep` may answer to a spare.
     ghost keep_gives: { Self → Spare → Bool → Type 0 };
 
-    /// How many slots the new group has: from 1 to 32, of fewer than 65536 units together.
+    /// How many slots the new group has: from 1 to 32, with fewer than 65536 units together.
     fn count(&self, ask: Ask) -> u32
         requires good { good self.now }
         requires ask { AskInRange ask }
@@ -47,6 +47,7 @@ impl<P: Rules> Model for Kept<P> {
 }
 
 impl<P: Rules> Kept<P> {
+    /// Stores the rules.
     pub fn new(rules: P) -> Kept<P>
         requires { P.good rules }
         ensures { result ≡ rules }
@@ -54,7 +55,7 @@ impl<P: Rules> Kept<P> {
         Kept { rules }
     }
 
-    /// How many slots the new group has: from 1 to 32, of fewer than 65536 units together.
+    /// How many slots the new group has: from 1 to 32, with fewer than 65536 units together.
     pub fn count(&self, ask: Ask) -> u32
         requires { AskInRange ask }
         ensures allowed { IsCount ask.class result }

@@ -1,4 +1,4 @@
-use Rattle.std.proofs.Common.{◌≡◌, ◌≤◌, length, rules, arith}
+use Rattle.std.proofs.Common.{◌≡◌, rules}
 use Rattle.ng_policy.specs.Musl.{choices_of, first_choice}
 use Rattle.ng_policy.proofs.Choices.{choices_of-some, first_choice-pos, first_choice-le, allowed_small, allowed_fitting}
 use Rattle.ng_policy.proofs.musl.chosen_slots.Goals as goal

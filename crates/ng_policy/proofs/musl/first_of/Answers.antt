@@ -1,11 +1,15 @@
-use Rattle.std.proofs.Common.{◌≡◌, ◌*◌, nat_le, rules, tests, ℕ, Bool, length, get_or, ◌-◌}
+use Rattle.std.proofs.Common.{◌≡◌, ◌*◌, nat_le, rules, tests, ℕ, Bool, length, get_or, ◌-◌, Option, Some, None, unwrap_or, refl}
 use Rattle.std.specs.List.{find}
 use Rattle.std.specs.Option.{option_map}
 use Rattle.std.proofs.lemmas.Iterator.{YieldsList-from_slice}
 use Rattle.std.proofs.lemmas.Iterator.Consumers.{YieldsList-from_copied}
 use Rattle.std.proofs.lemmas.Iterator.Search.{find_from_yields_List}
-use Rattle.ng_policy.proofs.Choices.{unwrap_or-option_map_same}
 use Rattle.ng_policy.proofs.musl.first_of.Goals as goal
+
+-- an option whose value is passed on as it is
+unwrap_or-option_map_same : (found same : Option ℕ) (d : ℕ) → option_map (λ x. x) found ≡ same → unwrap_or found d ≡ unwrap_or same d
+unwrap_or-option_map_same None same d e = rw (← e) refl
+unwrap_or-option_map_same (Some x) same d e = rw (← e) refl
 
 pub returns : goal.returns
 returns c =

@@ -1,4 +1,4 @@
-use Rattle.std.proofs.Common.{◌≡◌, ◌≤◌, ℕ}
+use Rattle.std.proofs.Common.{◌≡◌, ◌≤◌}
 use Rattle.ng_policy.specs.Musl.{fitting}
 use Rattle.ng_policy.proofs.musl.halved.Given as goal
 
