@@ -12,7 +12,7 @@ use Rattle.ng_terms.specs.Heap.{IsLive, Space, empty, large}
 use Rattle.ng_terms.specs.Histories.{Event, state_after}
 
 -- what a heap keeps from its opening on: where blocks may lie, and how many map calls had been refused
-pub record Ground : Type 0 where
+pub record Setting : Type 0 where
   pub space : Space
   pub refusals : ℕ
 

@@ -11,7 +11,7 @@ impl<M: Mapper> SequentialHeap for PlainHeap<M> {
 
     ghost spare = { λ heap. heap.spare };
 
-    ghost ground = { λ heap. record { space = space_in heap; refusals = heap.before } };
+    ghost setting = { λ heap. record { space = space_in heap; refusals = heap.before } };
 
     ghost counts = { λ heap. counts_of heap.now };
 
