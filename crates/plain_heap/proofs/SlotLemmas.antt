@@ -150,10 +150,11 @@ IsPlaced-gone groups first slot old new block there clears none apart place =
     (λ (other : place.first ≢ first). IsPlaced-set_other groups first None block place other)
     (cases_eq place.first first)
 
--- the page of a block is one of its group's
+-- the page of a block isn't before the pages of its group's run
 pub page-IsIn_from : (first : ℕ) (group : Group) (block : Extent) → IsIn first group block → first ≤ block.at / 4096
 page-IsIn_from first group block inside = omega (arith, inside.begins)
 
+-- .. and before the page behind them
 pub page-IsIn_below : (first : ℕ) (group : Group) (block : Extent) → IsIn first group block → block.at / 4096 < first + group.pages
 page-IsIn_below first group block inside = omega (arith, end_of-le_run first group block inside)
 

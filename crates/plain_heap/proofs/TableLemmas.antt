@@ -1,5 +1,5 @@
 -- Groups of a space by their pages.
-use Rattle.std.proofs.Common.{◌≡◌, ◌≢◌, ℕ, ◌+◌, ◌*◌, ◌/◌, ◌<◌, ◌≤◌, ◌⊎◌, List, [], ◌∷◌, Option, Some, None, length, get_or, set, refl, sym, ap, ◌∙◌, subst, arith, ⊎_elim, inl, inr, length-set, get_or-set_other}
+use Rattle.std.proofs.Common.{◌≡◌, ◌≢◌, ℕ, ◌+◌, ◌*◌, ◌/◌, ◌%◌, ◌<◌, ◌≤◌, ◌⊎◌, List, [], ◌∷◌, Option, Some, None, length, get_or, set, refl, sym, ap, ◌∙◌, subst, arith, ⊎_elim, inl, inr, length-set, get_or-set_other}
 use Rattle.std.specs.Prelude.{Contains, IsPermutation}
 use Rattle.std.proofs.lemmas.Bool.{cases_eq, cases_order}
 use Rattle.std.proofs.lemmas.Grind.{get_or-set_at}
@@ -48,12 +48,20 @@ pub Contains-more : (runs more : List Run) (new run : Run) → IsPermutation (ne
 Contains-more runs more new run moved there =
     Contains-permutation (new ∷ runs) more run moved (Contains-append_right (new ∷ []) runs run there)
 
+-- a run that begins at a page, by the page
+pub run-page : (at pages count : ℕ) → at % 4096 ≡ 0 → count ≡ pages → ◌≡◌ {A = Run} (at, pages) (4096 * (at / 4096), count)
+run-page at pages count aligned same =
+    let start : at ≡ 4096 * (at / 4096) = omega (arith, aligned) in
+    subst (λ (p : ℕ). ◌≡◌ {A = Run} (at, pages) (4096 * (at / 4096), p)) (sym same)
+    (subst (λ (a : ℕ). ◌≡◌ {A = Run} (at, pages) (a, pages)) start refl)
+
 -- where a run lies, in pages
 pub record IsInside (span : Span) (first pages : ℕ) : Type 0 where
   pub above : 1 ≤ first
   pub below : first + pages ≤ span.size
   pub some : 1 ≤ pages
 
+-- a run between the bounds lies so
 pub IsInside-lies : (span : Span) (first pages : ℕ) → IsSpan span → LiesIn span.lower span.upper (4096 * first, pages) → IsInside span first pages
 IsInside-lies span first pages bounds lies = record {
   above = omega (arith, bounds.above_first, lies.above);
@@ -61,6 +69,7 @@ IsInside-lies span first pages bounds lies = record {
   some = lies.some;
 }
 
+-- so does the run of a group
 pub IsInside-home : (span : Span) (runs : List Run) (owners : List ℕ) (first pages : ℕ) → IsSpan span → AreLaid span runs → IsHome runs owners first pages → IsInside span first pages
 IsInside-home span runs owners first pages bounds laid home =
     IsInside-lies span first pages bounds (All-contains (λ run. LiesIn span.lower span.upper run) runs (4096 * first, pages) laid.lie home.mapped)
@@ -94,7 +103,7 @@ AreMapped-set span runs owners groups first entry few owner_count group_count wi
       (cases_eq page first);
 }
 
--- the run of a group lies in the space
+-- .. that is in the table
 pub IsInside-at : (span : Span) (runs : List Run) (owners : List ℕ) (groups : List (Option Group)) (first : ℕ) (group : Group)
     → IsSpan span → AreLaid span runs → AreMapped span runs owners groups → IsAt groups first group → IsInside span first group.pages
 IsInside-at span runs owners groups first group bounds laid table there =
