@@ -1,0 +1,17 @@
+pub mod AddressLemmas
+pub mod ChainLemmas
+pub mod CircleLemmas
+pub mod CountLemmas
+pub mod DequeueLemmas
+pub mod DistinctLemmas
+pub mod EnqueueLemmas
+pub mod NeighbourLemmas
+pub mod OpeningLemmas
+pub mod PlaceLemmas
+pub mod PushLemmas
+pub mod ReadLemmas
+pub mod RemoveLemmas
+pub mod RingLemmas
+pub mod ShownLemmas
+pub mod SoundLemmas
+pub mod TableLemmas
