@@ -11,7 +11,7 @@ use Rattle.ng_lists.proofs.PushLemmas.{pushed, pushed_first}
 use Rattle.ng_lists.proofs.ShownLemmas.{changed, ring_with, unmarked}
 use Rattle.ng_lists.proofs.SoundLemmas.{Changes, member_inside}
 
-module _ (heads next prev marks : List ℕ) (pages : ℕ) (sound : IsSound heads next prev marks pages) (table : RingTable) (shown : table_of heads next marks pages ≡ table) (class : ℕ) (below : class < 48) (head mark : ℕ) (head_read : head ≡ get_or heads class head) (mark_read : mark ≡ get_or marks head mark) where
+module _ {heads next prev marks : List ℕ} {pages : ℕ} (sound : IsSound heads next prev marks pages) {table : RingTable} (shown : table_of heads next marks pages ≡ table) {class : ℕ} (below : class < 48) {head mark : ℕ} (head_read : head ≡ get_or heads class head) (mark_read : mark ≡ get_or marks head mark) where
   -- what the reads of the head, its mark and its link found
   head_is : head ≡ get_or heads class 0
   head_is = get_or_read heads class head (omega (arith, sound.classes)) head_read 0
@@ -26,8 +26,8 @@ module _ (heads next prev marks : List ℕ) (pages : ℕ) (sound : IsSound heads
   end_is last last_read = get_or_read prev head last (omega (arith, head_inside, sound.prevs)) last_read 0
 
   -- the last member of a ring that isn't empty
-  pub last_inside : (last : ℕ) → mark ≡ class + 1 → last ≡ get_or prev head last → last < 101 * pages
-  last_inside last marked' last_read =
+  pub last_inside : {last : ℕ} → mark ≡ class + 1 → last ≡ get_or prev head last → last < 101 * pages
+  last_inside {last} marked' last_read =
       let marked : get_or marks head 0 ≡ class + 1 = sym mark_is ∙ marked' in
       let last_is : last ≡ get_or prev head 0 = end_is last last_read in
       let is_ring : IsRing next prev marks (get_or heads class 0) class (ring_at next marks class (get_or heads class 0)) = sound.rings class below in
@@ -36,9 +36,9 @@ module _ (heads next prev marks : List ℕ) (pages : ℕ) (sound : IsSound heads
       subst
       (λ i. i < 101 * pages)
       end
-      (member_inside heads next prev marks pages sound class (get_or prev (get_or heads class 0) 0) below (prev_member next prev marks (get_or heads class 0) class (ring_at next marks class (get_or heads class 0)) (get_or heads class 0) is_ring (is_ring.found (get_or heads class 0) head_mark)))
+      (member_inside sound class (get_or prev (get_or heads class 0) 0) below (prev_member (get_or heads class 0) is_ring (is_ring.found (get_or heads class 0) head_mark)))
 
-  module _ (meta i : ℕ) (place : IsMetaPlace meta table.pages) (absent : ¬ IsListed table meta) (index : i ≡ index_at meta) where
+  module _ {meta i : ℕ} (place : IsMetaPlace meta table.pages) (absent : ¬ IsListed table meta) (index : i ≡ index_at meta) where
     mapped : 101 ≤ i
     mapped = subst (λ j. 101 ≤ j) (sym index) (index_from_page meta table.pages place)
 
@@ -46,14 +46,14 @@ module _ (heads next prev marks : List ℕ) (pages : ℕ) (sound : IsSound heads
     inside = subst (λ j. j < 101 * pages) (sym index) (subst (λ p. index_at meta < 101 * p) (sym (ap (λ t. t.pages) shown)) (index_below meta table.pages place))
 
     no_mark : get_or marks i 0 ≡ 0
-    no_mark = ap (λ j. get_or marks j 0) index ∙ unmarked heads next prev marks pages sound table shown meta place absent
+    no_mark = ap (λ j. get_or marks j 0) index ∙ unmarked sound shown meta place absent
 
     address : address_at (index_at meta) ≡ meta
     address = address_at-index_at meta table.pages place
 
     -- at the end of a ring that isn't empty
-    pub at_end : (last : ℕ) → mark ≡ class + 1 → last ≡ get_or prev head last → Changes heads next marks heads (set (set next last i) i head) (set (set prev i last) head i) (set marks i (class + 1)) pages class (ring_at next marks class (get_or heads class 0) ++ i ∷ [])
-    at_end last marked' last_read =
+    pub at_end : {last : ℕ} → mark ≡ class + 1 → last ≡ get_or prev head last → Changes heads next marks heads (set (set next last i) i head) (set (set prev i last) head i) (set marks i (class + 1)) pages class (ring_at next marks class (get_or heads class 0) ++ i ∷ [])
+    at_end {last} marked' last_read =
         let marked : get_or marks head 0 ≡ class + 1 = sym mark_is ∙ marked' in
         let last_is : last ≡ get_or prev head 0 = end_is last last_read in
         let head_mark : get_or marks (get_or heads class 0) 0 ≡ class + 1 = ap (λ h. get_or marks h 0) (sym head_is) ∙ marked in
@@ -61,13 +61,15 @@ module _ (heads next prev marks : List ℕ) (pages : ℕ) (sound : IsSound heads
         subst
         (λ h. Changes heads next marks heads (set (set next last i) i h) (set (set prev i last) h i) (set marks i (class + 1)) pages class (ring_at next marks class (get_or heads class 0) ++ i ∷ []))
         (sym head_is)
-        (pushed heads next prev marks pages sound class below i mapped inside no_mark last head_mark end)
+        (pushed sound below i mapped inside no_mark last head_mark end)
 
     -- as the only one of a ring
     pub as_first : mark ≢ class + 1 → Changes heads next marks (set heads class i) (set next i i) (set prev i i) (set marks i (class + 1)) pages class (ring_at next marks class (get_or heads class 0) ++ i ∷ [])
     as_first other =
-        pushed_first heads next prev marks pages sound class below i mapped inside no_mark (λ marked. other (mark_is ∙ ap (λ h. get_or marks h 0) head_is ∙ marked))
+        pushed_first sound below i mapped inside no_mark (λ marked. other (mark_is ∙ ap (λ h. get_or marks h 0) head_is ∙ marked))
 
-    pub shown_appended : (heads' next' prev' marks' : List ℕ) → Changes heads next marks heads' next' prev' marks' pages class (ring_at next marks class (get_or heads class 0) ++ i ∷ []) → table_of heads' next' marks' pages ≡ with_ring table class (ring_of table class ++ meta ∷ [])
-    shown_appended heads' next' prev' marks' changes =
-        changed heads next prev marks pages sound table shown heads' next' prev' marks' class below (ring_at next marks class (get_or heads class 0) ++ i ∷ []) changes ∙ ap (λ j. with_ring table class (map address_at (ring_at next marks class (get_or heads class 0) ++ j ∷ []))) index ∙ ap (with_ring table class) (ring_with heads next prev marks pages sound table shown class meta below address)
+    pub shown_appended : {heads' next' prev' marks' : List ℕ} → Changes heads next marks heads' next' prev' marks' pages class (ring_at next marks class (get_or heads class 0) ++ i ∷ []) → table_of heads' next' marks' pages ≡ with_ring table class (ring_of table class ++ meta ∷ [])
+    shown_appended changes =
+        let ring : map address_at (ring_at next marks class (get_or heads class 0) ++ i ∷ []) ≡ ring_of table class ++ meta ∷ [] =
+        ap (λ j. map address_at (ring_at next marks class (get_or heads class 0) ++ j ∷ [])) index ∙ ring_with sound shown class meta below address in
+        changed sound shown below changes ∙ ap (with_ring table class) ring

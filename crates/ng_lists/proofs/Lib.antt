@@ -5,6 +5,7 @@ pub mod CountLemmas
 pub mod DequeueLemmas
 pub mod DistinctLemmas
 pub mod EnqueueLemmas
+pub mod MemberLemmas
 pub mod NeighbourLemmas
 pub mod OpeningLemmas
 pub mod PlaceLemmas

@@ -8,7 +8,7 @@ use Rattle.ng_lists.proofs.NeighbourLemmas.{circle_pushed, prev_member, ring_emp
 use Rattle.ng_lists.proofs.RingLemmas.{mark_of, ring_joined, ring_marked, ring_pushed}
 use Rattle.ng_lists.proofs.SoundLemmas.{Changes, marked_inside}
 
-module _ (heads next prev marks : List ℕ) (pages : ℕ) (sound : IsSound heads next prev marks pages) (class : ℕ) (below : class < 48) where
+module _ {heads next prev marks : List ℕ} {pages : ℕ} (sound : IsSound heads next prev marks pages) {class : ℕ} (below : class < 48) where
   abbrev ring : List ℕ
   ring = ring_at next marks class (get_or heads class 0)
 
@@ -35,7 +35,7 @@ module _ (heads next prev marks : List ℕ) (pages : ℕ) (sound : IsSound heads
         (cases_eq j i)
 
     away : ¬ Contains (ring_at next marks class (get_or heads class 0)) i
-    away in' = omega (arith, absent, mark_of next prev marks (get_or heads class 0) class ring is_ring i in')
+    away in' = omega (arith, absent, mark_of is_ring i in')
 
     -- a meta at the end of a ring that isn't empty
     pub pushed : (last : ℕ) → get_or marks (get_or heads class 0) 0 ≡ class + 1 → get_or prev (get_or heads class 0) 0 ≡ last → Changes heads next marks heads (set (set next last i) i (get_or heads class 0)) (set (set prev i last) (get_or heads class 0) i) (set marks i (class + 1)) pages class (ring_at next marks class (get_or heads class 0) ++ i ∷ [])
@@ -43,12 +43,12 @@ module _ (heads next prev marks : List ℕ) (pages : ℕ) (sound : IsSound heads
         let head : ℕ = get_or heads class 0 in
         let first : Contains (ring_at next marks class (get_or heads class 0)) (get_or heads class 0) = is_ring.found (get_or heads class 0) marked in
         let end : Contains (ring_at next marks class (get_or heads class 0)) last =
-        subst (Contains ring) behind (prev_member next prev marks (get_or heads class 0) class ring (get_or heads class 0) is_ring first) in
-        let last_mark : get_or marks last 0 ≡ class + 1 = mark_of next prev marks (get_or heads class 0) class ring is_ring last end in
-        let last_inside : last < 101 * pages = marked_inside heads next prev marks pages sound last (omega arith) in
+        subst (Contains ring) behind (prev_member (get_or heads class 0) is_ring first) in
+        let last_mark : get_or marks last 0 ≡ class + 1 = mark_of is_ring last end in
+        let last_inside : last < 101 * pages = marked_inside sound last (omega arith) in
         let head_inside : get_or heads class 0 < 101 * pages = sound.inside class below in
         let circle : IsCircle (set (set next last i) i (get_or heads class 0)) (set (set prev i last) (get_or heads class 0) i) (get_or heads class 0) (ring_at next marks class (get_or heads class 0) ++ i ∷ []) =
-        circle_pushed next prev marks (get_or heads class 0) class ring last i is_ring marked behind away (omega (arith, sound.nexts)) (omega (arith, sound.nexts)) (omega (arith, sound.prevs)) (omega (arith, sound.prevs)) in
+        circle_pushed ring last i is_ring marked behind away (omega (arith, sound.nexts)) (omega (arith, sound.nexts)) (omega (arith, sound.prevs)) (omega (arith, sound.prevs)) in
         record {
           heads_kept = refl;
           nexts = omega (arith, length-set (set next last i) i (get_or heads class 0), length-set next last i, sound.nexts);
@@ -57,21 +57,21 @@ module _ (heads next prev marks : List ℕ) (pages : ℕ) (sound : IsSound heads
           inside = sound.inside;
           known = known_marked;
           placed = placed_marked;
-          this = ring_pushed next prev marks (get_or heads class 0) class ring _ _ (get_or heads class 0) i is_ring (omega (arith, sound.all_marks)) (omega arith) circle;
+          this = ring_pushed ring _ _ (get_or heads class 0) i is_ring (omega (arith, sound.all_marks)) (omega arith) circle;
           others = λ c known apart.
               let other : IsRing next prev marks (get_or heads c 0) c (ring_at next marks c (get_or heads c 0)) = sound.rings c known in
               let list : List ℕ = ring_at next marks c (get_or heads c 0) in
               let once : IsRing (set next last i) (set prev i last) marks (get_or heads c 0) c (ring_at next marks c (get_or heads c 0)) =
-              ring_joined next prev marks (get_or heads c 0) c list last i other (omega arith) (omega arith) in
+              ring_joined last i other (omega arith) (omega arith) in
               let twice : IsRing (set (set next last i) i (get_or heads class 0)) (set (set prev i last) (get_or heads class 0) i) marks (get_or heads c 0) c (ring_at next marks c (get_or heads c 0)) =
-              ring_joined (set next last i) (set prev i last) marks (get_or heads c 0) c list i (get_or heads class 0) once (omega arith) (omega arith) in
-              ring_marked _ _ marks (get_or heads c 0) c list i (class + 1) twice (omega (arith, sound.all_marks)) (omega arith) (omega arith);
+              ring_joined i (get_or heads class 0) once (omega arith) (omega arith) in
+              ring_marked i (class + 1) twice (omega (arith, sound.all_marks)) (omega arith) (omega arith);
         }
 
     -- a meta as the only one of a ring
     pub pushed_first : get_or marks (get_or heads class 0) 0 ≢ class + 1 → Changes heads next marks (set heads class i) (set next i i) (set prev i i) (set marks i (class + 1)) pages class (ring_at next marks class (get_or heads class 0) ++ i ∷ [])
     pushed_first unmarked =
-        let empty : ring_at next marks class (get_or heads class 0) ≡ [] = ring_empty next prev marks (get_or heads class 0) class ring is_ring unmarked in
+        let empty : ring_at next marks class (get_or heads class 0) ≡ [] = ring_empty ring is_ring unmarked in
         let head_is : get_or (set heads class i) class 0 ≡ i = get_or-set_same heads class i 0 (omega (arith, sound.classes)) in
         let alone : IsCircle (set next i i) (set prev i i) i (i ∷ []) = circle_alone next prev i (omega (arith, sound.nexts)) (omega (arith, sound.prevs)) in
         let circle : IsCircle (set next i i) (set prev i i) (get_or (set heads class i) class 0) (ring_at next marks class (get_or heads class 0) ++ i ∷ []) =
@@ -87,13 +87,13 @@ module _ (heads next prev marks : List ℕ) (pages : ℕ) (sound : IsSound heads
               (cases_eq c class);
           known = known_marked;
           placed = placed_marked;
-          this = ring_pushed next prev marks (get_or heads class 0) class ring _ _ (get_or (set heads class i) class 0) i is_ring (omega (arith, sound.all_marks)) (omega arith) circle;
+          this = ring_pushed ring _ _ (get_or (set heads class i) class 0) i is_ring (omega (arith, sound.all_marks)) (omega arith) circle;
           others = λ c known apart.
               let list : List ℕ = ring_at next marks c (get_or heads c 0) in
               let once : IsRing (set next i i) (set prev i i) marks (get_or heads c 0) c (ring_at next marks c (get_or heads c 0)) =
-              ring_joined next prev marks (get_or heads c 0) c list i i (sound.rings c known) (omega arith) (omega arith) in
+              ring_joined i i (sound.rings c known) (omega arith) (omega arith) in
               subst
               (λ h. IsRing (set next i i) (set prev i i) (set marks i (class + 1)) h c (ring_at next marks c (get_or heads c 0)))
               (sym (get_or-set_other heads class c i 0 apart))
-              (ring_marked _ _ marks (get_or heads c 0) c list i (class + 1) once (omega (arith, sound.all_marks)) (omega arith) (omega arith));
+              (ring_marked i (class + 1) once (omega (arith, sound.all_marks)) (omega arith) (omega arith));
         }

@@ -14,7 +14,7 @@ use Rattle.ng_lists.proofs.PlaceLemmas.{address_at-index_at, index_at-address_at
 use Rattle.ng_lists.proofs.ShownLemmas.{IsMember, IsSomewhere, index_inside, length_rings, listed_from_mark, member_mark, member_of, member_place, ring_is, ring_read, somewhere}
 use Rattle.ng_lists.proofs.NeighbourLemmas.{next_member, ring_empty}
 use Rattle.ng_lists.proofs.SoundLemmas.{member_inside}
-use Rattle.ng_lists.proofs.TableLemmas.{Split, split_at}
+use Rattle.ng_lists.proofs.TableLemmas.{Split, first_split}
 
 -- the first of a ring whose head is marked
 first_of_ring : (next prev marks : List ℕ) (head class : ℕ) (ring : List ℕ) → IsRing next prev marks head class ring → get_or marks head 0 ≡ class + 1 → slice_get (map address_at ring) 0 ≡ Some (address_at head)
@@ -50,17 +50,17 @@ only_index (x ∷ y ∷ xs) meta same = absurd (omega (arith, ap length same, le
 after_only : (next prev : List ℕ) (head i : ℕ) → IsCircle next prev head (i ∷ []) → get_or next i 0 ≡ i
 after_only next prev head i (same, link) = link.forth
 
-module _ (heads next prev marks : List ℕ) (pages : ℕ) (sound : IsSound heads next prev marks pages) (table : RingTable) (shown : table_of heads next marks pages ≡ table) where
+module _ {heads next prev marks : List ℕ} {pages : ℕ} (sound : IsSound heads next prev marks pages) {table : RingTable} (shown : table_of heads next marks pages ≡ table) where
   first_some : (class : ℕ) → class < 48 → get_or marks (get_or heads class 0) 0 ≡ class + 1 → slice_get (ring_of table class) 0 ≡ Some (address_at (get_or heads class 0))
   first_some class known marked =
-      ap (λ xs. slice_get xs 0) (ring_is heads next prev marks pages sound table shown class known) ∙ first_of_ring next prev marks (get_or heads class 0) class (ring_at next marks class (get_or heads class 0)) (sound.rings class known) marked
+      ap (λ xs. slice_get xs 0) (ring_is sound shown class known) ∙ first_of_ring next prev marks (get_or heads class 0) class (ring_at next marks class (get_or heads class 0)) (sound.rings class known) marked
 
   first_none : (class : ℕ) → class < 48 → get_or marks (get_or heads class 0) 0 ≢ class + 1 → ring_of table class ≡ []
   first_none class known unmarked =
-      ring_is heads next prev marks pages sound table shown class known ∙ ap (map address_at) (ring_empty next prev marks (get_or heads class 0) class (ring_at next marks class (get_or heads class 0)) (sound.rings class known) unmarked)
+      ring_is sound shown class known ∙ ap (map address_at) (ring_empty (ring_at next marks class (get_or heads class 0)) (sound.rings class known) unmarked)
 
   -- what the reads of a head and its mark found
-  module _ (class head mark : ℕ) (known : class < 48) (head_read : head ≡ get_or heads class head) (mark_read : mark ≡ get_or marks head mark) where
+  module _ {class head mark : ℕ} (known : class < 48) (head_read : head ≡ get_or heads class head) (mark_read : mark ≡ get_or marks head mark) where
     head_is : head ≡ get_or heads class 0
     head_is = get_or_read heads class head (omega (arith, sound.classes)) head_read 0
 
@@ -81,7 +81,7 @@ module _ (heads next prev marks : List ℕ) (pages : ℕ) (sound : IsSound heads
   next_of_member class meta is =
       let ring : List ℕ = ring_at next marks class (get_or heads class 0) in
       let i : ℕ = index_at meta in
-      let split : Split (ring_at next marks class (get_or heads class 0)) (index_at meta) = split_at (ring_at next marks class (get_or heads class 0)) (index_at meta) is.member in
+      let split : Split (ring_at next marks class (get_or heads class 0)) (index_at meta) = first_split (ring_at next marks class (get_or heads class 0)) (index_at meta) is.member in
       let whole : IsRing next prev marks (get_or heads class 0) class (split.front ++ index_at meta ∷ split.back) =
       subst (IsRing next prev marks (get_or heads class 0) class) split.whole (sound.rings class is.known) in
       let after : get_or next (index_at meta) 0 ≡ get_or (split.back ++ split.front ++ index_at meta ∷ []) 0 0 =
@@ -93,50 +93,50 @@ module _ (heads next prev marks : List ℕ) (pages : ℕ) (sound : IsSound heads
   -- the index after a listed meta's
   pub next_inside : (meta : ℕ) → IsListed table meta → get_or next (index_at meta) 0 < 101 * pages
   next_inside meta listed =
-      let place : IsSomewhere heads next marks meta = somewhere heads next prev marks pages sound table shown meta listed in
+      let place : IsSomewhere heads next marks meta = somewhere sound shown meta listed in
       let is : IsMember heads next marks place.class meta = place.here in
-      member_inside heads next prev marks pages sound place.class (get_or next (index_at meta) 0) is.known (next_member next prev marks (get_or heads place.class 0) place.class (ring_at next marks place.class (get_or heads place.class 0)) (index_at meta) (sound.rings place.class is.known) is.member)
+      member_inside sound place.class (get_or next (index_at meta) 0) is.known (next_member (index_at meta) (sound.rings place.class is.known) is.member)
 
   -- what the read of its link found
-  pub next_is : (meta i after : ℕ) → IsListed table meta → i ≡ index_at meta → after ≡ get_or next i after → after ≡ get_or next (index_at meta) 0
-  next_is meta i after listed index read =
-      let place : IsSomewhere heads next marks meta = somewhere heads next prev marks pages sound table shown meta listed in
-      let inside : index_at meta < 101 * pages = index_inside heads next prev marks pages sound table shown place.class meta place.here in
+  pub next_is : (meta : ℕ) {i after : ℕ} → IsListed table meta → i ≡ index_at meta → after ≡ get_or next i after → after ≡ get_or next (index_at meta) 0
+  next_is meta {i} {after} listed index read =
+      let place : IsSomewhere heads next marks meta = somewhere sound shown meta listed in
+      let inside : index_at meta < 101 * pages = index_inside sound shown place.class meta place.here in
       get_or_read next (index_at meta) after (omega (arith, inside, sound.nexts)) (read ∙ ap (λ j. get_or next j after) index) 0
 
   pub next_shown : (meta : ℕ) → All (λ ring. Contains ring meta → address_at (get_or next (index_at meta) 0) ≡ next_in ring meta) table.rings
   next_shown meta k d within in' =
-      let known : k < 48 = omega (arith, length_rings heads next prev marks pages sound table shown) in
+      let known : k < 48 = omega (arith, length_rings sound shown) in
       let is : IsMember heads next marks k meta =
-      member_of heads next prev marks pages sound table shown k meta known (subst (λ xs. Contains xs meta) (get_or_default table.rings k d [] within) in') in
-      next_of_member k meta is ∙ ap (λ xs. next_in xs meta) (sym (ring_read heads next prev marks pages sound table shown k d known))
+      member_of sound shown k meta known (subst (λ xs. Contains xs meta) (get_or_default table.rings k d [] within) in') in
+      next_of_member k meta is ∙ ap (λ xs. next_in xs meta) (sym (ring_read sound shown k d known))
 
   pub alone_from : (meta : ℕ) → IsListed table meta → get_or next (index_at meta) 0 ≡ index_at meta → Contains table.rings (meta ∷ [])
   alone_from meta listed same =
-      let place : IsSomewhere heads next marks meta = somewhere heads next prev marks pages sound table shown meta listed in
+      let place : IsSomewhere heads next marks meta = somewhere sound shown meta listed in
       let c : ℕ = place.class in
       let is : IsMember heads next marks place.class meta = place.here in
       let split : Split (ring_at next marks place.class (get_or heads place.class 0)) (index_at meta) =
-      split_at (ring_at next marks place.class (get_or heads place.class 0)) (index_at meta) is.member in
+      first_split (ring_at next marks place.class (get_or heads place.class 0)) (index_at meta) is.member in
       let whole : IsRing next prev marks (get_or heads place.class 0) place.class (split.front ++ index_at meta ∷ split.back) =
       subst (IsRing next prev marks (get_or heads place.class 0) place.class) split.whole (sound.rings place.class is.known) in
       let after : get_or next (index_at meta) 0 ≡ get_or (split.back ++ split.front ++ index_at meta ∷ []) 0 0 =
       circle_next next prev (get_or heads place.class 0) (index_at meta) split.front split.back whole.circle in
       let one : ring_at next marks place.class (get_or heads place.class 0) ≡ index_at meta ∷ [] =
       split.whole ∙ only_one (index_at meta) split.front split.back (sym after ∙ same) whole.distinct in
-      (place.class, omega (arith, is.known, length_rings heads next prev marks pages sound table shown), ring_read heads next prev marks pages sound table shown place.class (meta ∷ []) is.known ∙ ap (map address_at) one ∙ ap (λ a. a ∷ []) is.address)
+      (place.class, omega (arith, is.known, length_rings sound shown), ring_read sound shown place.class (meta ∷ []) is.known ∙ ap (map address_at) one ∙ ap (λ a. a ∷ []) is.address)
 
   pub alone_to : (meta : ℕ) → Contains table.rings (meta ∷ []) → get_or next (index_at meta) 0 ≡ index_at meta
   alone_to meta (k, within, is) =
-      let known : k < 48 = omega (arith, length_rings heads next prev marks pages sound table shown) in
+      let known : k < 48 = omega (arith, length_rings sound shown) in
       let addresses : map address_at (ring_at next marks k (get_or heads k 0)) ≡ meta ∷ [] =
-      sym (ring_read heads next prev marks pages sound table shown k (meta ∷ []) known) ∙ is in
+      sym (ring_read sound shown k (meta ∷ []) known) ∙ is in
       let one : ring_at next marks k (get_or heads k 0) ≡ index_at meta ∷ [] = only_index (ring_at next marks k (get_or heads k 0)) meta addresses in
       let ring : IsRing next prev marks (get_or heads k 0) k (index_at meta ∷ []) = subst (IsRing next prev marks (get_or heads k 0) k) one (sound.rings k known) in
       after_only next prev (get_or heads k 0) (index_at meta) ring.circle
 
   -- what the read of a meta's mark found
-  module _ (meta i mark : ℕ) (place : IsMetaPlace meta pages) (index : i ≡ index_at meta) (mark_read : mark ≡ get_or marks i mark) where
+  module _ {meta i mark : ℕ} (place : IsMetaPlace meta pages) (index : i ≡ index_at meta) (mark_read : mark ≡ get_or marks i mark) where
     meta_mark : mark ≡ get_or marks (index_at meta) 0
     meta_mark =
         let inside : index_at meta < 101 * pages = index_below meta pages place in
@@ -146,15 +146,15 @@ module _ (heads next prev marks : List ℕ) (pages : ℕ) (sound : IsSound heads
     has_from some = subst
         (IsListed table)
         (address_at-index_at meta pages place)
-        (listed_from_mark heads next prev marks pages sound table shown (index_at meta) (omega (arith, meta_mark)))
+        (listed_from_mark sound shown (index_at meta) (omega (arith, meta_mark)))
 
     pub has_to : IsListed table meta → mark ≢ 0
     has_to listed none =
-        let somewhere' : IsSomewhere heads next marks meta = somewhere heads next prev marks pages sound table shown meta listed in
-        omega (arith, meta_mark, member_mark heads next prev marks pages sound table shown somewhere'.class meta somewhere'.here)
+        let somewhere' : IsSomewhere heads next marks meta = somewhere sound shown meta listed in
+        omega (arith, meta_mark, member_mark sound shown somewhere'.class meta somewhere'.here)
 
   -- what is listed is a meta's place
   pub has_place : (meta : ℕ) → IsListed table meta → IsMetaPlace meta pages
   has_place meta listed =
-      let somewhere' : IsSomewhere heads next marks meta = somewhere heads next prev marks pages sound table shown meta listed in
-      subst (IsMetaPlace meta) (sym (ap (λ t. t.pages) shown)) (member_place heads next prev marks pages sound table shown somewhere'.class meta somewhere'.here)
+      let somewhere' : IsSomewhere heads next marks meta = somewhere sound shown meta listed in
+      subst (IsMetaPlace meta) (sym (ap (λ t. t.pages) shown)) (member_place sound shown somewhere'.class meta somewhere'.here)

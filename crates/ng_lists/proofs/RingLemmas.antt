@@ -18,23 +18,23 @@ pub swapped : (xs ys : List ℕ) (i : ℕ) → Contains (xs ++ ys) i → Contain
 swapped xs ys i in' =
     ⊎_elim (λ left. Contains-append_right ys xs i left) (λ right. Contains-append_left ys xs i right) (Contains-append_cases xs ys i in')
 
-module _ (next prev marks : List ℕ) (head class : ℕ) where
+module _ {next prev marks : List ℕ} {head class : ℕ} where
   -- the list of a ring is what the arrays show
-  pub ring_at-is : (ring : List ℕ) → IsRing next prev marks head class ring → ring_at next marks class head ≡ ring
-  ring_at-is ring is = ap (λ n. walk next n head) is.counted ∙ walk-circle next prev head ring is.circle
+  pub ring_at-is : {ring : List ℕ} → IsRing next prev marks head class ring → ring_at next marks class head ≡ ring
+  ring_at-is {ring} is = ap (λ n. walk next n head) is.counted ∙ walk-circle next prev head ring is.circle
 
   -- each member has the class's mark
-  pub mark_of : (ring : List ℕ) → IsRing next prev marks head class ring → (i : ℕ) → Contains ring i → get_or marks i 0 ≡ class + 1
-  mark_of ring is i in' = All-contains (λ j. get_or marks j 0 ≡ class + 1) ring i is.marked in'
+  pub mark_of : {ring : List ℕ} → IsRing next prev marks head class ring → (i : ℕ) → Contains ring i → get_or marks i 0 ≡ class + 1
+  mark_of {ring} is i in' = All-contains (λ j. get_or marks j 0 ≡ class + 1) ring i is.marked in'
 
   -- what has another mark isn't a member
-  pub apart_from : (ring : List ℕ) → IsRing next prev marks head class ring → (i other : ℕ) → Contains ring i → get_or marks other 0 ≢ class + 1 → i ≢ other
-  apart_from ring is i other in' unmarked same =
-      unmarked (ap (λ j. get_or marks j 0) (sym same) ∙ mark_of ring is i in')
+  pub apart_from : {ring : List ℕ} → IsRing next prev marks head class ring → (i other : ℕ) → Contains ring i → get_or marks other 0 ≢ class + 1 → i ≢ other
+  apart_from {ring} is i other in' unmarked same =
+      unmarked (ap (λ j. get_or marks j 0) (sym same) ∙ mark_of is i in')
 
   -- a ring stands where two others are joined
-  pub ring_joined : (ring : List ℕ) (from to : ℕ) → IsRing next prev marks head class ring → get_or marks from 0 ≢ class + 1 → get_or marks to 0 ≢ class + 1 → IsRing (set next from to) (set prev to from) marks head class ring
-  ring_joined ring from to is not_from not_to = record {
+  pub ring_joined : {ring : List ℕ} → (from to : ℕ) → IsRing next prev marks head class ring → get_or marks from 0 ≢ class + 1 → get_or marks to 0 ≢ class + 1 → IsRing (set next from to) (set prev to from) marks head class ring
+  ring_joined {ring} from to is not_from not_to = record {
     circle = circle_kept
         next
         prev
@@ -42,8 +42,8 @@ module _ (next prev marks : List ℕ) (head class : ℕ) where
         (set prev to from)
         head
         ring
-        (λ i in'. get_or-set_other next from i to 0 (apart_from ring is i from in' not_from))
-        (λ i in'. get_or-set_other prev to i from 0 (apart_from ring is i to in' not_to))
+        (λ i in'. get_or-set_other next from i to 0 (apart_from is i from in' not_from))
+        (λ i in'. get_or-set_other prev to i from 0 (apart_from is i to in' not_to))
         is.circle;
     marked = is.marked;
     distinct = is.distinct;
@@ -52,11 +52,11 @@ module _ (next prev marks : List ℕ) (head class : ℕ) where
   }
 
   -- a ring stands where another gets or loses a mark
-  pub ring_marked : (ring : List ℕ) (i mark : ℕ) → IsRing next prev marks head class ring → i < length marks → get_or marks i 0 ≢ class + 1 → mark ≢ class + 1 → IsRing next prev (set marks i mark) head class ring
-  ring_marked ring i mark is inside was now = record {
+  pub ring_marked : {ring : List ℕ} → (i mark : ℕ) → IsRing next prev marks head class ring → i < length marks → get_or marks i 0 ≢ class + 1 → mark ≢ class + 1 → IsRing next prev (set marks i mark) head class ring
+  ring_marked {ring} i mark is inside was now = record {
     circle = is.circle;
     marked = all_of (λ j. get_or (set marks i mark) j 0 ≡ class + 1) ring (λ j in'.
-        get_or-set_other marks i j mark 0 (apart_from ring is j i in' was) ∙ mark_of ring is j in');
+        get_or-set_other marks i j mark 0 (apart_from is j i in' was) ∙ mark_of is j in');
     distinct = is.distinct;
     found = λ j marked. ⊎_elim
         (λ same. absurd (now (sym (get_or-set_same marks i mark 0 inside) ∙ ap (λ x. get_or (set marks i mark) x 0) (sym same) ∙ marked)))
@@ -72,11 +72,11 @@ module _ (next prev marks : List ℕ) (head class : ℕ) where
       record {
         circle = circle;
         marked = all_of (λ j. get_or (set marks i (class + 1)) j 0 ≡ class + 1) (ring ++ i ∷ []) (λ j in'. ⊎_elim
-            (λ old. get_or-set_other marks i j (class + 1) 0 (apart_from ring is j i old was) ∙ mark_of ring is j old)
+            (λ old. get_or-set_other marks i j (class + 1) 0 (apart_from is j i old was) ∙ mark_of is j old)
             (λ new. ap (λ x. get_or (set marks i (class + 1)) x 0) (sym new) ∙ here)
             (Contains-push_cases ring i j in'));
         distinct = distinct_append ring (i ∷ []) is.distinct (λ a b d less within. absurd (omega arith)) (λ x y left right same.
-            apart_from ring is x i left was (same ∙ only i y right));
+            apart_from is x i left was (same ∙ only i y right));
         found = λ j marked. ⊎_elim
             (λ same. subst (Contains (ring ++ i ∷ [])) (sym same) (Contains-push ring i))
             (λ other. Contains-append_left ring (i ∷ []) j (is.found j (sym (get_or-set_other marks i j (class + 1) 0 other) ∙ marked)))
@@ -102,7 +102,7 @@ module _ (next prev marks : List ℕ) (head class : ℕ) where
       record {
         circle = circle;
         marked = all_of (λ j. get_or (set marks i mark) j 0 ≡ class + 1) (front ++ back) (λ j in'.
-            get_or-set_other marks i j mark 0 (other j in') ∙ mark_of (front ++ i ∷ back) is j (still j in'));
+            get_or-set_other marks i j mark 0 (other j in') ∙ mark_of is j (still j in'));
         distinct = distinct_append front back (distinct_front front (i ∷ back) distinct) (distinct_tail i back behind) (λ x y left right.
             distinct_across front (i ∷ back) distinct x y left (Contains-append_right (i ∷ []) back y right));
         found = λ j marked. ⊎_elim
@@ -115,7 +115,7 @@ module _ (next prev marks : List ℕ) (head class : ℕ) where
             (Contains-append_cases (i ∷ []) back j right))
             (Contains-append_cases front (i ∷ back) j (is.found j (sym (get_or-set_other marks i j mark 0 apart) ∙ marked))))
             (cases_eq j i);
-        counted = omega (arith, members_less marks i mark class inside (mark_of (front ++ i ∷ back) is i middle) now, is.counted, length-append front (i ∷ back), length-append front back);
+        counted = omega (arith, members_less marks i mark class inside (mark_of is i middle) now, is.counted, length-append front (i ∷ back), length-append front back);
       }
 
   -- the ring from another of its members on
@@ -123,7 +123,7 @@ module _ (next prev marks : List ℕ) (head class : ℕ) where
   ring_rotated front back i is = record {
     circle = circle_rotated next prev head i front back is.circle;
     marked = all_of (λ j. get_or marks j 0 ≡ class + 1) (i ∷ back ++ front) (λ j in'.
-        mark_of (front ++ i ∷ back) is j (swapped (i ∷ back) front j in'));
+        mark_of is j (swapped (i ∷ back) front j in'));
     distinct = distinct_append (i ∷ back) front (distinct_back front (i ∷ back) is.distinct) (distinct_front front (i ∷ back) is.distinct) (λ x y left right same.
         distinct_across front (i ∷ back) is.distinct y x right left (sym same));
     found = λ j marked. swapped front (i ∷ back) j (is.found j marked);

@@ -24,12 +24,12 @@ pub record IsSomewhere (heads next marks : List ℕ) (meta : ℕ) : Type 0 where
   pub class : ℕ
   pub here : IsMember heads next marks class meta
 
-module _ (heads next prev marks : List ℕ) (pages : ℕ) (sound : IsSound heads next prev marks pages) (table : RingTable) (shown : table_of heads next marks pages ≡ table) where
+module _ {heads next prev marks : List ℕ} {pages : ℕ} (sound : IsSound heads next prev marks pages) {table : RingTable} (shown : table_of heads next marks pages ≡ table) where
   pub length_rings : length table.rings ≡ 48
   length_rings = ap (λ t. length t.rings) (sym shown) ∙ length-rings_from next marks 0 heads ∙ sound.classes
 
   pub ring_is : (class : ℕ) → class < 48 → ring_of table class ≡ map address_at (ring_at next marks class (get_or heads class 0))
-  ring_is class known = ap (λ t. ring_of t class) (sym shown) ∙ ring_shown heads next prev marks pages sound class known
+  ring_is class known = ap (λ t. ring_of t class) (sym shown) ∙ ring_shown sound class known
 
   -- the same by a read with any default
   pub ring_read : (class : ℕ) (d : List ℕ) → class < 48 → get_or table.rings class d ≡ map address_at (ring_at next marks class (get_or heads class 0))
@@ -71,10 +71,10 @@ module _ (heads next prev marks : List ℕ) (pages : ℕ) (sound : IsSound heads
   module _ (class meta : ℕ) (is : IsMember heads next marks class meta) where
     pub member_mark : get_or marks (index_at meta) 0 ≡ class + 1
     member_mark =
-        mark_of next prev marks (get_or heads class 0) class (ring_at next marks class (get_or heads class 0)) (sound.rings class is.known) (index_at meta) is.member
+        mark_of (sound.rings class is.known) (index_at meta) is.member
 
     pub index_inside : index_at meta < 101 * pages
-    index_inside = member_inside heads next prev marks pages sound class (index_at meta) is.known is.member
+    index_inside = member_inside sound class (index_at meta) is.known is.member
 
     pub meta_low : meta < 2 ^ 26
     meta_low = subst (λ a. a < 2 ^ 26) is.address (address_low (index_at meta) pages index_inside sound.greatest)
@@ -89,11 +89,11 @@ module _ (heads next prev marks : List ℕ) (pages : ℕ) (sound : IsSound heads
         subst (λ a. IsMetaPlace a table.pages) is.address (subst (IsMetaPlace (address_at (index_at meta))) (ap (λ t. t.pages) shown) here)
 
   -- a step that changes one ring
-  pub changed : (heads' next' prev' marks' : List ℕ) (class : ℕ) → class < 48 → (ring : List ℕ) → Changes heads next marks heads' next' prev' marks' pages class ring → table_of heads' next' marks' pages ≡ with_ring table class (map address_at ring)
-  changed heads' next' prev' marks' class below ring changes = subst
+  pub changed : {heads' next' prev' marks' : List ℕ} {class : ℕ} → class < 48 → {ring : List ℕ} → Changes heads next marks heads' next' prev' marks' pages class ring → table_of heads' next' marks' pages ≡ with_ring table class (map address_at ring)
+  changed {heads'} {next'} {prev'} {marks'} {class} below {ring} changes = subst
       (λ t. table_of heads' next' marks' pages ≡ with_ring t class (map address_at ring))
       shown
-      (ap (λ rs. record { rings = rs; pages = pages }) (shown_changed heads next prev marks pages sound heads' next' prev' marks' class below ring changes))
+      (ap (λ rs. record { rings = rs; pages = pages }) (shown_changed sound below changes))
 
   -- the ring with one more meta
   pub ring_with : (class meta : ℕ) → class < 48 → address_at (index_at meta) ≡ meta → map address_at (ring_at next marks class (get_or heads class 0) ++ index_at meta ∷ []) ≡ ring_of table class ++ meta ∷ []

@@ -30,7 +30,7 @@ pub record Changes (heads next marks heads' next' prev' marks' : List ℕ) (page
   pub this : IsRing next' prev' marks' (get_or heads' class 0) class ring
   pub others : (c : ℕ) → c < 48 → c ≢ class → IsRing next' prev' marks' (get_or heads' c 0) c (ring_at next marks c (get_or heads c 0))
 
-module _ (heads next prev marks : List ℕ) (pages : ℕ) (sound : IsSound heads next prev marks pages) where
+module _ {heads next prev marks : List ℕ} {pages : ℕ} (sound : IsSound heads next prev marks pages) where
   -- a marked index is one of the arrays'
   pub marked_inside : (i : ℕ) → 0 < get_or marks i 0 → i < 101 * pages
   marked_inside i marked = ⊎_elim
@@ -44,16 +44,16 @@ module _ (heads next prev marks : List ℕ) (pages : ℕ) (sound : IsSound heads
 
   pub member_inside : (class i : ℕ) → class < 48 → Contains (ring_at next marks class (get_or heads class 0)) i → i < 101 * pages
   member_inside class i known in' =
-      marked_inside i (omega (arith, mark_of next prev marks (get_or heads class 0) class (ring_at next marks class (get_or heads class 0)) (sound.rings class known) i in'))
+      marked_inside i (omega (arith, mark_of (sound.rings class known) i in'))
 
-  module _ (heads' next' prev' marks' : List ℕ) (class : ℕ) (below : class < 48) (ring : List ℕ) (changes : Changes heads next marks heads' next' prev' marks' pages class ring) where
+  module _ {heads' next' prev' marks' : List ℕ} {class : ℕ} (below : class < 48) {ring : List ℕ} (changes : Changes heads next marks heads' next' prev' marks' pages class ring) where
     -- each ring of the new arrays is as the change says
     new_this : ring_at next' marks' class (get_or heads' class 0) ≡ ring
-    new_this = ring_at-is next' prev' marks' (get_or heads' class 0) class ring changes.this
+    new_this = ring_at-is changes.this
 
     new_other : (c : ℕ) → c < 48 → c ≢ class → ring_at next' marks' c (get_or heads' c 0) ≡ ring_at next marks c (get_or heads c 0)
     new_other c known apart =
-        ring_at-is next' prev' marks' (get_or heads' c 0) c (ring_at next marks c (get_or heads c 0)) (changes.others c known apart)
+        ring_at-is (changes.others c known apart)
 
     pub still_sound : IsSound heads' next' prev' marks' pages
     still_sound = record {

@@ -1,25 +1,42 @@
 -- Rings split at one of their metas.
-use Rattle.std.proofs.Common.{◌≡◌, ℕ, zero, suc, ◌+◌, ◌==◌, true, List, [], ◌∷◌, ◌++◌, length, get_or, drop, Contains, cond, refl, ap, sym, ◌∙◌, arith}
+use Rattle.std.proofs.Common.{◌≡◌, ◌≢◌, ℕ, zero, suc, ◌+◌, ◌==◌, true, List, [], ◌∷◌, ◌++◌, length, get_or, drop, Contains, cond, refl, ap, sym, ◌∙◌, arith, ⊎_elim}
 use Rattle.std.specs.Prelude.{not}
 use Rattle.std.specs.List.{position_or_len}
-use Rattle.std.proofs.lemmas.Bool.{cond-true, cond-false, eq-eqb, ne_eqb}
+use Rattle.std.proofs.lemmas.Bool.{cases_eq, cond-true, cond-false, eq-eqb, ne_eqb}
 use Rattle.std.proofs.lemmas.List.{append_assoc, drop_at, take_at, length_push}
 use Rattle.std.proofs.lemmas.List.Elements.{Contains-append_right}
 use Rattle.ng_lists.specs.Rings.{after, before, next_in, rotated, without}
 
--- the parts of a list around one of its elements
+-- nothing is in the empty list
+nowhere : (x : ℕ) → ¬ Contains [] x
+nowhere x (k, within, is) = omega arith
+
+-- what isn't the first of a list is later in it
+later : (y : ℕ) (xs : List ℕ) (x : ℕ) → y ≢ x → Contains (y ∷ xs) x → Contains xs x
+later y xs x other (zero, within, is) = absurd (other is)
+later y xs x other (suc k, within, is) = (k, omega arith, is)
+
+-- the parts of a list around the first place of an element
 pub record Split (xs : List ℕ) (x : ℕ) : Type 0 where
   pub front : List ℕ
   pub back : List ℕ
   pub whole : xs ≡ front ++ x ∷ back
+  pub away : ¬ Contains front x
 
 -- a list is split at each of its elements
-pub split_at : (xs : List ℕ) (x : ℕ) → Contains xs x → Split xs x
-split_at [] x (k, within, is) = absurd (omega arith)
-split_at (y ∷ xs) x (zero, within, is) = record { front = []; back = xs; whole = ap (λ z. z ∷ xs) is }
-split_at (y ∷ xs) x (suc k, within, is) =
-    let rest : Split xs x = split_at xs x (k, omega arith, is) in
-    record { front = y ∷ rest.front; back = rest.back; whole = ap (λ zs. y ∷ zs) rest.whole }
+pub first_split : (xs : List ℕ) (x : ℕ) → Contains xs x → Split xs x
+first_split [] x (k, within, is) = absurd (omega arith)
+first_split (y ∷ xs) x (k, within, is) = ⊎_elim
+    (λ same. record { front = []; back = xs; whole = ap (λ z. z ∷ xs) same; away = λ in'. nowhere x in' })
+    (λ other.
+    let rest : Split xs x = first_split xs x (later y xs x other (k, within, is)) in
+    record {
+      front = y ∷ rest.front;
+      back = rest.back;
+      whole = ap (λ zs. y ∷ zs) rest.whole;
+      away = λ in'. rest.away (later y rest.front x other in');
+    })
+    (cases_eq y x)
 
 -- the first place of an element is behind what doesn't contain it
 position-split : (front : List ℕ) (x : ℕ) (back : List ℕ) → ¬ Contains front x → position_or_len (λ y. y == x) (front ++ x ∷ back) ≡ length front

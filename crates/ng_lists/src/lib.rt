@@ -6,3 +6,6 @@ mod place;
 mod rings;
 
 pub use rings::Rings;
+
+#[cfg(test)]
+mod tests;

@@ -6,17 +6,17 @@ use Rattle.ng_lists.proofs.ReadLemmas.{found_first, found_none, not_empty}
 
 pub returns-then-from-class-clause-first : goal.returns-then-from-class-clause-first
 returns-then-from-class-clause-first c =
-    ap Some c.address_of.ensures ∙ sym (found_first _ _ _ _ _ c.self.invariant _ c.self.view_is c.args.class c.index-head.result.now c.index.result.now c.requires.class c.index-head.ensures c.index.ensures (sym c.from.ensures ∙ c.if-from-class.true))
+    ap Some c.address_of.ensures ∙ sym (found_first c.self.invariant c.self.view_is c.requires.class c.index-head.ensures c.index.ensures (sym c.from.ensures ∙ c.if-from-class.true))
 
 pub returns-then-from-class-clause-none : goal.returns-then-from-class-clause-none
 returns-then-from-class-clause-none c =
-    let first = found_first _ _ _ _ _ c.self.invariant _ c.self.view_is c.args.class c.index-head.result.now c.index.result.now c.requires.class c.index-head.ensures c.index.ensures (sym c.from.ensures ∙ c.if-from-class.true) in
+    let first = found_first c.self.invariant c.self.view_is c.requires.class c.index-head.ensures c.index.ensures (sym c.from.ensures ∙ c.if-from-class.true) in
     (λ never. absurd (both_ways true never refl), λ empty. absurd (not_empty _ _ first empty))
 
 pub returns-else-from-class-clause-first : goal.returns-else-from-class-clause-first
 returns-else-from-class-clause-first c =
-    ap (λ xs. slice_get xs 0) (sym (found_none _ _ _ _ _ c.self.invariant _ c.self.view_is c.args.class c.index-head.result.now c.index.result.now c.requires.class c.index-head.ensures c.index.ensures (λ same. c.if-from-class.false (c.from.ensures ∙ same))))
+    ap (λ xs. slice_get xs 0) (sym (found_none c.self.invariant c.self.view_is c.requires.class c.index-head.ensures c.index.ensures (λ same. c.if-from-class.false (c.from.ensures ∙ same))))
 
 pub returns-else-from-class-clause-none : goal.returns-else-from-class-clause-none
 returns-else-from-class-clause-none c =
-    (λ _. found_none _ _ _ _ _ c.self.invariant _ c.self.view_is c.args.class c.index-head.result.now c.index.result.now c.requires.class c.index-head.ensures c.index.ensures (λ same. c.if-from-class.false (c.from.ensures ∙ same)), λ _. refl)
+    (λ _. found_none c.self.invariant c.self.view_is c.requires.class c.index-head.ensures c.index.ensures (λ same. c.if-from-class.false (c.from.ensures ∙ same)), λ _. refl)

@@ -9,8 +9,8 @@ returns-then-is_meta_place c =
     let place : IsMetaPlace c.args.meta c.self.inside.pages = c.if-is_meta_place.ensures.0 refl in
     record {
       listed = (
-        λ marked. has_from _ _ _ _ _ c.self.invariant _ c.self.view_is c.args.meta c.index_of.result c.index.result.now place c.index_of.ensures c.index.ensures (eqb-false _ _ (not-true _ marked)),
-        λ listed. not_from_false _ (ne_eqb _ _ (has_to _ _ _ _ _ c.self.invariant _ c.self.view_is c.args.meta c.index_of.result c.index.result.now place c.index_of.ensures c.index.ensures listed)),
+        λ marked. has_from c.self.invariant c.self.view_is place c.index_of.ensures c.index.ensures (eqb-false _ _ (not-true _ marked)),
+        λ listed. not_from_false _ (ne_eqb _ _ (has_to c.self.invariant c.self.view_is place c.index_of.ensures c.index.ensures listed)),
       );
     }
 
@@ -19,6 +19,6 @@ returns-else-is_meta_place c =
     record {
       listed = (
         λ is. absurd (both_ways _ c.if-is_meta_place.false is),
-        λ listed. c.is_meta_place.ensures.1 (has_place _ _ _ _ _ c.self.invariant _ c.self.view_is c.args.meta listed),
+        λ listed. c.is_meta_place.ensures.1 (has_place c.self.invariant c.self.view_is c.args.meta listed),
       );
     }

@@ -6,30 +6,30 @@ use Rattle.ng_lists.proofs.ShownLemmas.{index_inside, meta_behind_head, meta_low
 
 pub index_of-requires-clause-low : goal.index_of-requires-clause-low
 index_of-requires-clause-low c =
-    let place = somewhere _ _ _ _ _ c.self.invariant _ c.self.view_is c.args.meta c.requires.listed in
-    meta_low _ _ _ _ _ c.self.invariant _ c.self.view_is place.class c.args.meta place.here
+    let place = somewhere c.self.invariant c.self.view_is c.args.meta c.requires.listed in
+    meta_low c.self.invariant c.self.view_is place.class c.args.meta place.here
 
 pub index_of-requires-clause-behind_head : goal.index_of-requires-clause-behind_head
 index_of-requires-clause-behind_head c =
-    let place = somewhere _ _ _ _ _ c.self.invariant _ c.self.view_is c.args.meta c.requires.listed in
-    meta_behind_head _ _ _ _ _ c.self.invariant _ c.self.view_is place.class c.args.meta place.here
+    let place = somewhere c.self.invariant c.self.view_is c.args.meta c.requires.listed in
+    meta_behind_head c.self.invariant c.self.view_is place.class c.args.meta place.here
 
 pub index-requires : goal.index-requires
 index-requires c =
-    let place = somewhere _ _ _ _ _ c.self.invariant _ c.self.view_is c.args.meta c.requires.listed in
-    let inside : index_at c.args.meta < 101 * c.self.inside.pages = index_inside _ _ _ _ _ c.self.invariant _ c.self.view_is place.class c.args.meta place.here in
+    let place = somewhere c.self.invariant c.self.view_is c.args.meta c.requires.listed in
+    let inside : index_at c.args.meta < 101 * c.self.inside.pages = index_inside c.self.invariant c.self.view_is place.class c.args.meta place.here in
     rw c.index_of.ensures (omega (arith, c.self.invariant.nexts))
 
 pub address_of-requires : goal.address_of-requires
 address_of-requires c =
     let after : c.index.result.now ≡ get_or c.self.inside.links.next.items (index_at c.args.meta) 0 =
-    next_is _ _ _ _ _ c.self.invariant _ c.self.view_is c.args.meta c.index_of.result c.index.result.now c.requires.listed c.index_of.ensures c.index.ensures in
+    next_is c.self.invariant c.self.view_is c.args.meta c.requires.listed c.index_of.ensures c.index.ensures in
     let inside : get_or c.self.inside.links.next.items (index_at c.args.meta) 0 < 101 * c.self.inside.pages =
-    next_inside _ _ _ _ _ c.self.invariant _ c.self.view_is c.args.meta c.requires.listed in
+    next_inside c.self.invariant c.self.view_is c.args.meta c.requires.listed in
     rw after (omega (arith, inside, c.self.invariant.greatest))
 
 pub returns : goal.returns
 returns c =
     let after : c.index.result.now ≡ get_or c.self.inside.links.next.items (index_at c.args.meta) 0 =
-    next_is _ _ _ _ _ c.self.invariant _ c.self.view_is c.args.meta c.index_of.result c.index.result.now c.requires.listed c.index_of.ensures c.index.ensures in
-    record { next = λ k d within in'. c.address_of.ensures ∙ ap address_at after ∙ next_shown _ _ _ _ _ c.self.invariant _ c.self.view_is c.args.meta k d within in' }
+    next_is c.self.invariant c.self.view_is c.args.meta c.requires.listed c.index_of.ensures c.index.ensures in
+    record { next = λ k d within in'. c.address_of.ensures ∙ ap address_at after ∙ next_shown c.self.invariant c.self.view_is c.args.meta k d within in' }
