@@ -1,3 +1,6 @@
 pub mod First
 pub mod Mentions
+pub mod Plans
+pub mod Steps
 pub mod Tables
+pub mod Turns

@@ -4,6 +4,7 @@
 mod first;
 mod mentions;
 mod names;
+mod step;
 
 pub use first::first_plan;
 pub use ng_terms::{Op, Origin, Plan};

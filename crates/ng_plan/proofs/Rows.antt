@@ -1,0 +1,34 @@
+-- The definition at small logs.
+use Rattle.std.proofs.Common.{◌≡◌, ℕ, List, [], ◌∷◌, Some, None, refl, map}
+use Rattle.ng_mtrace.specs.declared.log.Line.{Line}
+use Rattle.ng_mtrace.specs.declared.log.Line.TheVariants as line
+use Rattle.ng_terms.specs.declared.plan.Op.{Op}
+use Rattle.ng_terms.specs.declared.plan.Op.TheVariants.{Make, Free, Move}
+use Rattle.ng_terms.specs.declared.plan.Origin.TheVariants.{Own, Claim, Skip}
+use Rattle.ng_terms.specs.declared.plan.Plan.{Plan}
+use Rattle.ng_plan.specs.Turns.{turns_of}
+use Rattle.ng_plan.specs.Plans.{plan_of}
+
+-- a block that is handed to its own log, and one that is the log's own
+abbrev twice : List (List Line)
+twice = (line.Make 16 20 ∷ line.Make 16 20 ∷ line.End 16 ∷ line.End 16 ∷ []) ∷ []
+
+to_itself : plan_of twice ≡ record {
+    logs = (Make 16 20 (Some 1) ∷ Make 16 20 None ∷ Free 16 (Own 1) ∷ Free 16 (Claim 1) ∷ []) ∷ [];
+    order = 0 ∷ 0 ∷ 0 ∷ 0 ∷ [];
+    receivers = 0 ∷ [];
+  }
+unfolding turns_of
+to_itself = refl
+
+-- a claim before its block waits, and one without a block is skipped
+abbrev crossed : List (List Line)
+crossed = (line.End 16 ∷ line.End 32 ∷ []) ∷ (line.Make 16 8 ∷ line.Move 16 48 8 ∷ line.Make 16 8 ∷ []) ∷ []
+
+waits : plan_of crossed ≡ record {
+    logs = (Free 16 (Claim 1) ∷ Free 32 Skip ∷ []) ∷ (Make 16 8 None ∷ Move 16 48 (Own 0) 8 None ∷ Make 16 8 (Some 1) ∷ []) ∷ [];
+    order = 1 ∷ 1 ∷ 1 ∷ 0 ∷ 0 ∷ [];
+    receivers = 0 ∷ [];
+  }
+unfolding turns_of
+waits = refl
