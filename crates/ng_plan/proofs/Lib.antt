@@ -4,4 +4,5 @@ pub mod KnownLemmas
 pub mod MakerLemmas
 pub mod Rows
 pub mod SortedLemmas
+pub mod StepLemmas
 pub mod TableLemmas

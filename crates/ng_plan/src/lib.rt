@@ -4,7 +4,9 @@
 mod first;
 mod mentions;
 mod names;
+mod own;
 mod step;
+mod steps;
 
 pub use first::first_plan;
 pub use ng_terms::{Op, Origin, Plan};
