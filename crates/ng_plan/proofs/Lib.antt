@@ -2,7 +2,9 @@ pub mod FirstLemmas
 pub mod FirstSound
 pub mod KnownLemmas
 pub mod MakerLemmas
+pub mod QueueLemmas
 pub mod Rows
+pub mod ScheduleLemmas
 pub mod SortedLemmas
 pub mod StepLemmas
 pub mod TableLemmas

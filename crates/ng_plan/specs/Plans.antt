@@ -11,7 +11,7 @@ use Rattle.ng_terms.specs.declared.plan.Plan.{Plan}
 use Rattle.ng_plan.specs.declared.step.Place.{Place}
 use Rattle.ng_plan.specs.Mentions.{own}
 use Rattle.ng_plan.specs.Steps.{steps_of}
-use Rattle.ng_plan.specs.Turns.{Turns, turns_of}
+use Rattle.ng_plan.specs.Turns.{Turns, makers_of, takers_of, turns_of}
 
 abbrev pub is_place : Place → Place → Bool
 is_place place other = (other.log == place.log) && (other.op == place.op)
@@ -19,14 +19,6 @@ is_place place other = (other.log == place.log) && (other.op == place.op)
 -- the number of a place among these, from 1
 abbrev pub number_of : List Place → Place → Option ℕ
 number_of places place = position_from (is_place place) 1 places
-
--- the ops that made the blocks of the hand-offs, in the order of the claims
-abbrev pub makers_of : Turns → List Place
-makers_of turns = map (λ handoff. handoff.maker) turns.handoffs
-
--- the ops that took them
-abbrev pub takers_of : Turns → List Place
-takers_of turns = map (λ handoff. handoff.taker) turns.handoffs
 
 -- where the block comes from, by the log's own op and the number of the hand-off taken
 abbrev pub origin : Option ℕ → Option ℕ → Origin

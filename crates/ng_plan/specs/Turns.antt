@@ -1,5 +1,5 @@
 -- Whose turn comes next, and which block a claim takes.
-use Rattle.std.specs.Prelude.{ℕ, ◌+◌, Bool, List, [], ◌∷◌, ◌++◌, ◌==◌, ◌&&◌, length, find, Option, Some, None, if◌then◌else◌, slice_get, slice_index, slice_set, sum_by, replicate, zero, suc}
+use Rattle.std.specs.Prelude.{ℕ, ◌+◌, Bool, List, [], ◌∷◌, ◌++◌, ◌==◌, ◌&&◌, length, find, map, Option, Some, None, if◌then◌else◌, slice_get, slice_index, slice_set, sum_by, replicate, zero, suc}
 use Rattle.ng_plan.specs.declared.step.Place.{Place}
 use Rattle.ng_plan.specs.declared.step.Step.{Step}
 
@@ -20,6 +20,14 @@ pub record Turns : Type 0 where
   pub posted : List Posted
   pub handoffs : List HandOff
   pub order : List ℕ
+
+-- the ops that made the blocks of the hand-offs, in the order of the claims
+abbrev pub makers_of : Turns → List Place
+makers_of turns = map (λ handoff. handoff.maker) turns.handoffs
+
+-- the ops that took them
+abbrev pub takers_of : Turns → List Place
+takers_of turns = map (λ handoff. handoff.taker) turns.handoffs
 
 -- the place of a log's next op
 abbrev pub next_place : Turns → ℕ → Place

@@ -5,6 +5,9 @@ mod first;
 mod mentions;
 mod names;
 mod own;
+mod queues;
+mod rounds;
+mod schedule;
 mod step;
 mod steps;
 
