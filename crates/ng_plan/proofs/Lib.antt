@@ -1,8 +1,10 @@
 pub mod FirstLemmas
 pub mod FirstSound
+pub mod FitLemmas
 pub mod KnownLemmas
 pub mod MakerLemmas
 pub mod QueueLemmas
+pub mod RoundLemmas
 pub mod Rows
 pub mod ScheduleLemmas
 pub mod SortedLemmas

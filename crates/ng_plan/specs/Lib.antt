@@ -1,6 +1,7 @@
 pub mod Blocks
 pub mod First
 pub mod Mentions
+pub mod Numbers
 pub mod Plans
 pub mod Schedules
 pub mod Steps

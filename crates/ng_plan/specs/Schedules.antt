@@ -31,6 +31,12 @@ named_logs names logs = map (map (named names)) logs
 pub record DoneBelow (schedule : Schedule) (logs : List (List Step)) (upto : ℕ) : Type 0 where
   pub below : (log : ℕ) → log < upto → slice_get (slice_index_or logs log []) (slice_index schedule.done.items log) ≡ None
 
+-- this log is the first with an op left, and this is its step
+pub record IsFirstLeft (schedule : Schedule) (logs : List (List Step)) (log : ℕ) (step : Step) : Type 0 where
+  pub within : log < length logs
+  pub before : DoneBelow schedule logs log
+  pub next : slice_get (slice_index_or logs log []) (slice_index schedule.done.items log) ≡ Some step
+
 -- no log has an op left
 abbrev pub AllDone : Schedule → List (List Step) → Type 0
 AllDone schedule logs = DoneBelow schedule logs (length logs)

@@ -4,6 +4,8 @@
 mod first;
 mod mentions;
 mod names;
+mod numbers;
+mod ops;
 mod own;
 mod queues;
 mod rounds;

@@ -1,5 +1,5 @@
-ghost use Rattle.std.specs.Prelude.{◌≡◌, ◌<◌, ◌≤◌, ℕ, List, length, slice_index, slice_index_or, sum_by, unwrap_or, false, All, Ok, IfOk, IfSome, OnOk};
-ghost use Rattle.ng_plan.specs.Schedules.{AllDone, AreTurns, FitsLogs, named_logs};
+ghost use Rattle.std.specs.Prelude.{◌≡◌, ◌<◌, ◌≤◌, ℕ, List, length, slice_index, slice_index_or, sum_by, unwrap_or, false, All, Ok, IfOk, IfNone, IfSome, OnOk};
+ghost use Rattle.ng_plan.specs.Schedules.{AllDone, AreTurns, FitsLogs, IsFirstLeft, named_logs};
 ghost use Rattle.ng_plan.specs.Tables.{IsNumbered, Rises};
 ghost use Rattle.ng_plan.specs.Turns.{Turns, go_on as go_on_of, round as round_of, skip as skip_of, turns_of};
 
@@ -24,7 +24,7 @@ pub fn all_turns(
     let mut schedule = Schedule::new(alloc, names, logs.len(), total)?;
     for _ in 0..total {
         if !go_on(&mut schedule, logs)? {
-            break;
+            return Ok(schedule);
         }
     }
     Ok(schedule)
@@ -80,11 +80,23 @@ fn skip(schedule: &mut Schedule, logs: &[Items<Step>]) -> Result<bool, AllocErro
         → AreTurns names schedule.new (skip_of (named_logs names logs.now) turns)) }
     ensures all { result ≡ Ok false → AllDone schedule.new logs.now }
 {
+    let Some((log, step)) = first_left(schedule, logs) else {
+        return Ok(false);
+    };
+    schedule.finish(log as u32, step.posts)?;
+    Ok(true)
+}
+
+/// The first log with ops left, and the step of its next op.
+fn first_left(schedule: &Schedule, logs: &[Items<Step>]) -> Option<(usize, Step)>
+    requires { FitsLogs schedule.now logs.now }
+    ensures first { IfSome result (λ found. IsFirstLeft schedule.now logs.now found.0 found.1) }
+    ensures none { IfNone result (AllDone schedule.now logs.now) }
+{
     for (log, steps) in logs.iter().enumerate() {
         if let Some(step) = schedule.next(log, steps.as_slice()) {
-            schedule.finish(log as u32, step.posts)?;
-            return Ok(true);
+            return Some((log, step));
         }
     }
-    Ok(false)
+    None
 }

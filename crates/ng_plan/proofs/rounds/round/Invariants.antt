@@ -1,4 +1,4 @@
-use Rattle.std.proofs.Common.{◌≡◌, List, ℕ, length, take}
+use Rattle.std.proofs.Common.{List, ℕ, take}
 use Rattle.ng_plan.specs.Schedules.{AreTurns, FitsLogs, named_logs}
 use Rattle.ng_plan.specs.Turns.{Turns, round_from}
 use Rattle.ng_plan.proofs.rounds.round.Given as goal
