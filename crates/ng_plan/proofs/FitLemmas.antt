@@ -1,6 +1,6 @@
 -- A schedule that fits its logs.
-use Rattle.std.proofs.Common.{◌≡◌, ℕ, ◌+◌, ◌<◌, ◌≤◌, List, [], ◌∷◌, length, map, get_or, Some, refl, sym, ap, ◌∙◌, subst, arith, ⊎_elim}
-use Rattle.std.specs.Prelude.{All, slice_get, sum_by}
+use Rattle.std.proofs.Common.{◌≡◌, ℕ, ◌+◌, ◌<◌, ◌≤◌, List, [], ◌∷◌, length, map, get_or, refl, sym, ◌∙◌, subst, arith}
+use Rattle.std.specs.Prelude.{All, sum_by}
 use Rattle.std.proofs.lemmas.Option.{slice_get_within, get_or_from_slice_get}
 use Rattle.std.proofs.lemmas.List.{length-map}
 use Rattle.std.proofs.lemmas.List.Sums.{sum_by-cons}
@@ -8,7 +8,7 @@ use Rattle.ng_plan.specs.declared.schedule.Schedule.{Schedule}
 use Rattle.ng_plan.specs.declared.step.Step.{Step}
 use Rattle.ng_plan.specs.Schedules.{AreTurns, AllDone, FitsLogs, IsFirstLeft, named_logs}
 use Rattle.ng_plan.specs.Tables.{IsNumbered, named}
-use Rattle.ng_plan.specs.Turns.{Turns, go_on, rounds, start, turns_of}
+use Rattle.ng_plan.specs.Turns.{rounds, start, turns_of}
 use Rattle.ng_plan.proofs.RoundLemmas.{go_on_done, rounds_end}
 
 -- a schedule of the same sizes fits the logs too

@@ -2,7 +2,9 @@ pub mod FirstLemmas
 pub mod FirstSound
 pub mod FitLemmas
 pub mod KnownLemmas
+pub mod LogLemmas
 pub mod MakerLemmas
+pub mod OpLemmas
 pub mod QueueLemmas
 pub mod RoundLemmas
 pub mod Rows

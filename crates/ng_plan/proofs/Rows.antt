@@ -1,11 +1,9 @@
 -- The definition at small logs.
-use Rattle.std.proofs.Common.{◌≡◌, ℕ, List, [], ◌∷◌, Some, None, refl, map}
+use Rattle.std.proofs.Common.{◌≡◌, List, [], ◌∷◌, Some, None, refl}
 use Rattle.ng_mtrace.specs.declared.log.Line.{Line}
 use Rattle.ng_mtrace.specs.declared.log.Line.TheVariants as line
-use Rattle.ng_terms.specs.declared.plan.Op.{Op}
 use Rattle.ng_terms.specs.declared.plan.Op.TheVariants.{Make, Free, Move}
 use Rattle.ng_terms.specs.declared.plan.Origin.TheVariants.{Own, Claim, Skip}
-use Rattle.ng_terms.specs.declared.plan.Plan.{Plan}
 use Rattle.ng_plan.specs.Turns.{turns_of}
 use Rattle.ng_plan.specs.Plans.{plan_of}
 

@@ -1,5 +1,5 @@
 -- A schedule and its turns, where a claim looks for a block.
-use Rattle.std.proofs.Common.{◌≡◌, ℕ, Bool, true, false, List, [], ◌∷◌, ◌++◌, length, map, Option, Some, None, eqb, get_or, refl, sym, ap, ◌∙◌, subst, ⊎_elim}
+use Rattle.std.proofs.Common.{◌≡◌, ℕ, List, [], ◌∷◌, ◌++◌, length, Option, Some, None, eqb, get_or, refl, sym, ap, ◌∙◌, subst, ⊎_elim}
 use Rattle.std.specs.Option.{option_map}
 use Rattle.std.proofs.lemmas.Bool.{cases_Bool, eqb-true}
 use Rattle.std.proofs.lemmas.List.{map-append}
@@ -10,7 +10,7 @@ use Rattle.ng_plan.specs.declared.schedule.Schedule.{Schedule}
 use Rattle.ng_plan.specs.declared.step.Place.{Place}
 use Rattle.ng_plan.specs.Blocks.{AreQueues}
 use Rattle.ng_plan.specs.Schedules.{AreTurns, handed_over}
-use Rattle.ng_plan.specs.Turns.{Posted, HandOff, Turns, earliest, without, next_place, makers_of, takers_of}
+use Rattle.ng_plan.specs.Turns.{Posted, HandOff, Turns, earliest, without, next_place}
 
 some_none : (place : Place) → Some place ≡ None → ⊥
 some_none place same = cc

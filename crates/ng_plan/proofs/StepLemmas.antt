@@ -1,11 +1,13 @@
 -- Own ops and steps by the places of their lines.
 use Rattle.std.proofs.Common.{◌≡◌, ℕ, zero, suc, ◌+◌, ◌<◌, List, [], ◌∷◌, ◌++◌, length, take, drop, get_or, map, set, None, refl, sym, ap, ◌∙◌, arith, append_assoc, append-nil}
 use Rattle.std.proofs.lemmas.List.{take_more, drop_more}
+use Rattle.std.proofs.lemmas.List.Sums.{sum_by-cons}
+use Rattle.std.specs.Prelude.{sum_by}
 use Rattle.ng_mtrace.specs.declared.log.Line.{Line}
 use Rattle.ng_mtrace.specs.declared.log.Line.TheVariants.{Make}
 use Rattle.ng_plan.specs.declared.step.Step.{Step}
 use Rattle.ng_plan.specs.Mentions.{own}
-use Rattle.ng_plan.specs.Steps.{owns_behind, owns_of, step_of, steps_behind}
+use Rattle.ng_plan.specs.Steps.{owns_behind, step_of, steps_behind, steps_of}
 use Rattle.ng_plan.specs.Tables.{named}
 use Rattle.ng_plan.proofs.MakerLemmas.{line_at}
 
@@ -37,3 +39,19 @@ drop-set_here (s ∷ steps) (suc i) step within =
 pub told_back : (names : List ℕ) (lines : List Line) (steps : List Step) (i : ℕ) (step : Step) → i < length lines → i < length steps → named names step ≡ step_of (take i lines) (line_at lines i) (drop (i + 1) lines) → map (named names) (drop (i + 1) steps) ≡ steps_behind (take (i + 1) lines) (drop (i + 1) lines) → map (named names) (drop i (set steps i step)) ≡ steps_behind (take i lines) (drop i lines)
 told_back names lines steps i step within inside is told =
     ap (map (named names)) (drop-set_here steps i step inside) ∙ ap (λ (s : Step). s ∷ map (named names) (drop (i + 1) steps)) is ∙ ap (λ (ss : List Step). step_of (take i lines) (line_at lines i) (drop (i + 1) lines) ∷ ss) told ∙ sym (steps_more lines i within)
+
+pub length-steps : (before lines : List Line) → length (steps_behind before lines) ≡ length lines
+length-steps before [] = refl
+length-steps before (line ∷ lines) =
+    let rest : length (steps_behind (before ++ line ∷ []) lines) ≡ length lines = length-steps (before ++ line ∷ []) lines in
+    omega arith
+
+-- there are as many steps as lines
+pub sum_steps : (logs : List (List Line)) → sum_by length (map steps_of logs) ≡ sum_by length logs
+sum_steps [] = refl
+sum_steps (lines ∷ logs) =
+    let rest : sum_by length (map steps_of logs) ≡ sum_by length logs = sum_steps logs in
+    let long : length (steps_of lines) ≡ length lines = length-steps [] lines in
+    let left : sum_by length (map steps_of (lines ∷ logs)) ≡ length (steps_of lines) + sum_by length (map steps_of logs) = sum_by-cons length (steps_of lines) (map steps_of logs) in
+    let right : sum_by length (lines ∷ logs) ≡ length lines + sum_by length logs = sum_by-cons length lines logs in
+    omega arith

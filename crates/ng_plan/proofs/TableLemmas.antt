@@ -5,7 +5,7 @@ use Rattle.std.proofs.lemmas.Bool.{cases_eq, cases_lt}
 use Rattle.std.proofs.lemmas.Bool.Decides.{nat_tests}
 use Rattle.std.proofs.lemmas.List.{get_or_read, get_or-set_same, get_or-set_other}
 use Rattle.ng_mtrace.specs.declared.log.Line.{Line}
-use Rattle.ng_plan.specs.Mentions.{ended, made, is_name, maker_then, maker_from, maker}
+use Rattle.ng_plan.specs.Mentions.{made, is_name, maker_then, maker_from, maker}
 use Rattle.ng_plan.specs.Tables.{Rises, AreMakers, AreEnded}
 
 -- one more line at the end

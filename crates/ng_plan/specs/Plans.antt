@@ -2,6 +2,7 @@
 use Rattle.std.specs.Prelude.{ℕ, ◌+◌, Bool, List, [], ◌∷◌, ◌++◌, ◌==◌, ◌&&◌, length, map, Option, Some, None}
 use Rattle.std.specs.List.{position_from}
 use Rattle.ng_mtrace.specs.declared.log.Line.{Line}
+use Rattle.ng_mtrace.specs.declared.log.Log.{Log}
 use Rattle.ng_mtrace.specs.declared.log.Line.TheVariants as line
 use Rattle.ng_terms.specs.declared.plan.Op.{Op}
 use Rattle.ng_terms.specs.declared.plan.Op.TheVariants.{Make, Free, Move}
@@ -56,6 +57,10 @@ plan_with turns logs = record {
   order = turns.order;
   receivers = map (λ handoff. handoff.taker.log) turns.handoffs;
 }
+
+-- the lines of each log
+abbrev pub lines_of : List Log → List (List Line)
+lines_of logs = map (λ log. log.lines) logs
 
 -- the plan of logs, by the lines of each
 abbrev pub plan_of : List (List Line) → Plan

@@ -1,7 +1,8 @@
 -- Tables by the numbers of names. No public clause cites this module.
-use Rattle.std.specs.Prelude.{ℕ, ◌≡◌, ◌<◌, Bool, false, List, length, Option, Some, None, slice_index, slice_index_or, Contains, if◌then◌else◌}
+use Rattle.std.specs.Prelude.{ℕ, ◌≡◌, ◌<◌, Bool, false, List, length, Option, Some, None, slice_index, slice_index_or, All, Contains, if◌then◌else◌}
 use Rattle.std.specs.Option.{option_map}
 use Rattle.ng_mtrace.specs.declared.log.Line.{Line}
+use Rattle.ng_mtrace.specs.declared.log.Log.{Log}
 use Rattle.ng_plan.specs.declared.step.Step.{Step}
 use Rattle.ng_plan.specs.Mentions.{ended, made, is_name, maker, ends_next}
 
@@ -13,6 +14,10 @@ pub record Rises (names : List ℕ) : Type 0 where
 pub record IsKnown (names : List ℕ) (line : Line) : Type 0 where
   pub ends : (name : ℕ) → ended line ≡ Some name → Contains names name
   pub makes : (name : ℕ) → made line ≡ Some name → Contains names name
+
+-- the names that a log mentions have numbers
+abbrev pub AreKnown : List ℕ → Log → Type 0
+AreKnown names log = All (IsKnown names) log.lines
 
 -- of each name the op that made it, where its last mention among these lines makes it
 pub record AreMakers (names : List ℕ) (makers : List (Option ℕ)) (before : List Line) : Type 0 where

@@ -1,5 +1,5 @@
 -- Whose turn comes next, and which block a claim takes.
-use Rattle.std.specs.Prelude.{ℕ, ◌+◌, Bool, List, [], ◌∷◌, ◌++◌, ◌==◌, ◌&&◌, length, find, map, Option, Some, None, if◌then◌else◌, slice_get, slice_index, slice_set, sum_by, replicate, zero, suc}
+use Rattle.std.specs.Prelude.{ℕ, ◌+◌, List, [], ◌∷◌, ◌++◌, ◌==◌, length, find, map, Option, Some, None, if◌then◌else◌, slice_get, slice_index, slice_set, sum_by, replicate, zero, suc}
 use Rattle.ng_plan.specs.declared.step.Place.{Place}
 use Rattle.ng_plan.specs.declared.step.Step.{Step}
 

@@ -7,6 +7,7 @@ mod names;
 mod numbers;
 mod ops;
 mod own;
+mod planning;
 mod queues;
 mod rounds;
 mod schedule;
@@ -15,6 +16,7 @@ mod steps;
 
 pub use first::first_plan;
 pub use ng_terms::{Op, Origin, Plan};
+pub use planning::plan;
 
 #[cfg(test)]
 mod tests;

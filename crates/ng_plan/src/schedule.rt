@@ -126,4 +126,11 @@ impl Schedule {
         self.order.push(log)?;
         Ok(())
     }
+
+    /// The log of each turn.
+    pub fn into_order(self) -> Vec<u32>
+        ensures { result.items ≡ self.order.items }
+    {
+        self.order
+    }
 }
