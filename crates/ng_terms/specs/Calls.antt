@@ -127,7 +127,7 @@ pub record Fits (plan : Plan) (mode : Mode) (replies : List (List Reply)) : Type
   pub logs : length replies ≡ length plan.logs
   pub ops : (log : ℕ) → log < length plan.logs
       → AllZip (λ op reply. FitsOp mode (source_of plan.logs replies log (origin_of op)) op reply)
-               (slice_index_or plan.logs log []) (slice_index_or replies log [])
+      (slice_index_or plan.logs log []) (slice_index_or replies log [])
 
 -- the heap call of a make, by its outcome
 abbrev pub calls_of_make : Mode → ℕ → Made → List Entry
@@ -136,17 +136,21 @@ calls_of_make mode size (made.NoMemory excuse) = entry.NoMemory size excuse ∷ 
 calls_of_make mode size made.TooLarge = entry.TooLarge 1 size (align_of mode) ∷ []
 calls_of_make mode size made.BadAlign = entry.BadAlign (align_of mode) ∷ []
 
--- the entries that an op's reply stands for: a move to another address is a give and then a take
+-- the entries that a reply stands for, where so many bytes were asked: a move to another address is a give and then a take
+abbrev pub calls_for : Mode → ℕ → Reply → List Entry
+calls_for mode size (Given at) = calls_of_make mode size (made.Given at)
+calls_for mode size (Freed at) = entry.Take at ∷ []
+calls_for mode size (Moved old at) = if old == at then entry.Resize at size ∷ [] else entry.Give size 16 at ∷ entry.Take old ∷ []
+calls_for mode size (NoMemory old excuse) = entry.NoMemory size excuse ∷ []
+calls_for mode size (TooLarge old) = entry.TooLarge 1 size (if is_some old then 16 else align_of mode) ∷ []
+calls_for mode size BadAlign = calls_of_make mode size made.BadAlign
+calls_for mode size Skipped = []
+calls_for mode size Absent = []
+calls_for mode size (Fresh skipped made) = calls_of_make mode size made
+
+-- the entries that an op's reply stands for
 abbrev pub calls_of : Mode → Op → Reply → List Entry
-calls_of mode op (Given at) = calls_of_make mode (size_of op) (made.Given at)
-calls_of mode op (Freed at) = entry.Take at ∷ []
-calls_of mode op (Moved old at) = if old == at then entry.Resize at (size_of op) ∷ [] else entry.Give (size_of op) 16 at ∷ entry.Take old ∷ []
-calls_of mode op (NoMemory old excuse) = entry.NoMemory (size_of op) excuse ∷ []
-calls_of mode op (TooLarge old) = entry.TooLarge 1 (size_of op) (if is_some old then 16 else align_of mode) ∷ []
-calls_of mode op BadAlign = calls_of_make mode (size_of op) made.BadAlign
-calls_of mode op Skipped = []
-calls_of mode op Absent = []
-calls_of mode op (Fresh skipped made) = calls_of_make mode (size_of op) made
+calls_of mode op reply = calls_for mode (size_of op) reply
 
 -- the entries of a log's ops, in order
 abbrev pub calls_of_log : Mode → List Op → List Reply → List Entry

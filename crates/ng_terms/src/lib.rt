@@ -5,10 +5,12 @@ pub mod entry;
 pub mod host;
 pub mod items;
 pub mod plan;
+pub mod refusal;
 pub mod reply;
 
 pub use entry::{Entry, Extent, LARGE};
 pub use host::Host;
 pub use items::Items;
 pub use plan::{Op, Origin, Plan};
+pub use refusal::AllocRefusal;
 pub use reply::{Made, Mode, Reply};

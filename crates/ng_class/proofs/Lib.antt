@@ -1,0 +1,5 @@
+pub mod Classes
+pub mod Slots
+pub mod Places
+pub mod Masks
+pub mod Fills

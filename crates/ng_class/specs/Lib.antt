@@ -1,0 +1,4 @@
+pub mod Class
+pub mod Slot
+pub mod Place
+pub mod Mask

@@ -1,0 +1,5 @@
+pub mod Bytes
+pub mod Cycle
+pub mod Header
+pub mod Reading
+pub mod Tail

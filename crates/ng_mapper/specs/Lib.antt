@@ -1,0 +1,5 @@
+pub mod FirstFit
+pub mod Holes
+pub mod InOrder
+pub mod Mapping
+pub mod Runs

@@ -1,0 +1,29 @@
+//! Sources and sinks of bytes, and the reader of allocation logs.
+#![tactic(auto)]
+
+mod bytes_in;
+mod bytes_out;
+mod first;
+mod first_form;
+mod input;
+mod log;
+mod number;
+mod output;
+mod reading;
+mod stream;
+mod text;
+mod writing;
+
+pub use bytes_in::BytesIn;
+pub use bytes_out::BytesOut;
+pub use first::{FirstFault, read_first};
+pub use input::Input;
+pub use log::{Line, Log, Logs};
+pub use ng_terms::Items;
+pub use output::Output;
+pub use reading::{ReadFault, read_whole};
+pub use stream::{Failed, Sink, Source};
+pub use writing::write_all;
+
+#[cfg(test)]
+mod tests;

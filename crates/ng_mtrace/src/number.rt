@@ -1,0 +1,43 @@
+ghost use Rattle.std.specs.Prelude.{◌≡◌, ◌<◌, ◌≤◌, IfSome, MatchOption};
+ghost use Rattle.std.specs.Char.{digit_value};
+ghost use Rattle.ng_mtrace.specs.Numbers.{number_of, hex_of};
+
+/// The value of a hexadecimal digit of either case.
+fn digit(byte: u8) -> Option<u8>
+    ensures value { MatchOption result (16 ≤ digit_value byte) (λ d. d ≡ digit_value byte) }
+    ensures small { IfSome result (λ d. d < 16) }
+{
+    match byte {
+        b'0'..=b'9' => Some(byte - b'0'),
+        b'a'..=b'f' => Some(byte - b'a' + 10),
+        b'A'..=b'F' => Some(byte - b'A' + 10),
+        _ => None,
+    }
+}
+
+/// The number that 1 to 16 hexadecimal digits write.
+fn number(digits: &[u8]) -> Option<u64>
+    ensures { result ≡ number_of digits.now }
+{
+    if digits.is_empty() || digits.len() > 16 {
+        return None;
+    }
+    let mut value: u64 = 0;
+    for byte in digits {
+        let Some(d) = digit(*byte) else {
+            return None;
+        };
+        value = value * 16 + u64::from(d);
+    }
+    Some(value)
+}
+
+/// The number that `0x` and 1 to 16 hexadecimal digits write.
+pub fn hex(token: &[u8]) -> Option<u64>
+    ensures { result ≡ hex_of token.now }
+{
+    match token {
+        [b'0', b'x', digits @ ..] => number(digits),
+        _ => None,
+    }
+}

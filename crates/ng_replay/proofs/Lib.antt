@@ -1,0 +1,4 @@
+pub mod CarryLemmas
+pub mod LoneLemmas
+pub mod AccountLemmas
+pub mod FirstLemmas

@@ -1,0 +1,17 @@
+use Rattle.std.proofs.Common.{◌≡◌, ◌+◌, ◌-◌, ◌*◌, ◌≤◌, ◌++◌, map, take, length, vec_len, vec_capacity}
+use Rattle.ng_terms.specs.Calls.{calls_of_log}
+use Rattle.ng_replay.specs.Lone.{AreHeld, FitSoFar, MostForOps}
+use Rattle.ng_replay.specs.Serving.{live_of, plain}
+use Rattle.ng_replay.proofs.lone.serial_alone.Given as goal
+
+abbrev pub invariant-loop-op : goal.invariant-loop-op
+invariant-loop-op g l = record {
+  count : length l.replies.items ≡ l.op-index;
+  room : length l.ops ≤ vec_capacity l.replies;
+  spare : 2 * length l.ops ≤ g.H.SequentialHeap.spare l.heap + 2 * l.op-index;
+  fit : FitSoFar l.ops l.replies.items;
+  history : g.H.SequentialHeap.history l.heap ≡ map (λ entry. (l.caller, entry)) (calls_of_log plain (take l.op-index l.ops) l.replies.items);
+  held : AreHeld l.ops l.op-index l.replies.items (live_of (g.H.SequentialHeap.history l.heap));
+  most : MostForOps (g.H.SequentialHeap.counts l.initial.heap).most (g.H.SequentialHeap.counts l.heap).most l.ops;
+  ground : g.H.SequentialHeap.ground l.heap ≡ g.H.SequentialHeap.ground l.initial.heap;
+}
