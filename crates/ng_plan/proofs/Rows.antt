@@ -30,3 +30,26 @@ waits : plan_of crossed ≡ record {
   }
 unfolding turns_of
 waits = refl
+
+-- where a round does nothing the first log skips, and a claim takes the earliest block
+abbrev vain : List (List Line)
+vain = (line.End 32 ∷ line.Make 16 20 ∷ []) ∷ (line.End 16 ∷ line.Make 16 20 ∷ []) ∷ []
+
+in_vain : plan_of vain ≡ record {
+    logs = (Free 32 Skip ∷ Make 16 20 (Some 1) ∷ []) ∷ (Free 16 (Claim 1) ∷ Make 16 20 None ∷ []) ∷ [];
+    order = 0 ∷ 0 ∷ 1 ∷ 1 ∷ [];
+    receivers = 1 ∷ [];
+  }
+unfolding turns_of
+in_vain = refl
+
+abbrev moving : List (List Line)
+moving = (line.Make 16 1 ∷ line.Make 16 2 ∷ line.Make 16 3 ∷ []) ∷ (line.End 16 ∷ line.Move 16 16 4 ∷ line.End 16 ∷ []) ∷ []
+
+earliest_first : plan_of moving ≡ record {
+    logs = (Make 16 1 (Some 1) ∷ Make 16 2 (Some 2) ∷ Make 16 3 None ∷ []) ∷ (Free 16 (Claim 1) ∷ Move 16 16 (Claim 2) 4 None ∷ Free 16 (Own 1) ∷ []) ∷ [];
+    order = 0 ∷ 1 ∷ 0 ∷ 1 ∷ 0 ∷ 1 ∷ [];
+    receivers = 1 ∷ 1 ∷ [];
+  }
+unfolding turns_of
+earliest_first = refl
