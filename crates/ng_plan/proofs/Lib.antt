@@ -5,6 +5,7 @@ pub mod KnownLemmas
 pub mod LogLemmas
 pub mod MakerLemmas
 pub mod OpLemmas
+pub mod OwnLemmas
 pub mod QueueLemmas
 pub mod RoundLemmas
 pub mod Rows
@@ -12,3 +13,4 @@ pub mod ScheduleLemmas
 pub mod SortedLemmas
 pub mod StepLemmas
 pub mod TableLemmas
+pub mod TurnLemmas

@@ -47,10 +47,10 @@ pub ops_are : (turns : Turns) (log : ℕ) (lines : List Line) (owns taken given 
 ops_are turns log lines owns taken given ops owns_are taken_long given_long long each takers makers =
     same_lists ops (ops_of turns log lines) (long ∙ sym (length-ops turns log [] lines))
     (λ k d within.
-        let inside : k < length lines = omega arith in
-        each k d inside
-        ∙ ap (λ (o : Option ℕ). op_of (line_at lines k) o (get_or taken k None) (get_or given k None)) (ap (λ (os : List (Option ℕ)). get_or os k None) owns_are ∙ own_at [] lines k inside)
-        ∙ ap (λ (t : Option ℕ). op_of (line_at lines k) (own (take k lines) (line_at lines k)) t (get_or given k None)) (takers.each k (omega arith))
-        ∙ ap (λ (g : Option ℕ). op_of (line_at lines k) (own (take k lines) (line_at lines k)) (number_of (takers_of turns) (record { log = log; op = k })) g) (makers.each k (omega arith))
-        ∙ ap (λ (n : ℕ). op_with turns (take k lines) (line_at lines k) (record { log = log; op = n })) (sym (zero-add k))
-        ∙ sym (op_at turns log [] lines k d inside))
+    let inside : k < length lines = omega arith in
+    each k d inside
+    ∙ ap (λ (o : Option ℕ). op_of (line_at lines k) o (get_or taken k None) (get_or given k None)) (ap (λ (os : List (Option ℕ)). get_or os k None) owns_are ∙ own_at [] lines k inside)
+    ∙ ap (λ (t : Option ℕ). op_of (line_at lines k) (own (take k lines) (line_at lines k)) t (get_or given k None)) (takers.each k (omega arith))
+    ∙ ap (λ (g : Option ℕ). op_of (line_at lines k) (own (take k lines) (line_at lines k)) (number_of (takers_of turns) (record { log = log; op = k })) g) (makers.each k (omega arith))
+    ∙ ap (λ (n : ℕ). op_with turns (take k lines) (line_at lines k) (record { log = log; op = n })) (sym (zero-add k))
+    ∙ sym (op_at turns log [] lines k d inside))

@@ -4,6 +4,8 @@ pub mod Mentions
 pub mod Numbers
 pub mod Plans
 pub mod Schedules
+pub mod Sound
+pub mod SoundTurns
 pub mod Steps
 pub mod Tables
 pub mod Turns

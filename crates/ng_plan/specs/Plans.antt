@@ -39,7 +39,7 @@ ops_behind turns log before [] = []
 ops_behind turns log before (line ∷ lines) =
     let place : Place = record { log = log; op = length before } in
     op_of line (own before line) (number_of (takers_of turns) place) (number_of (makers_of turns) place)
-        ∷ ops_behind turns log (before ++ line ∷ []) lines
+    ∷ ops_behind turns log (before ++ line ∷ []) lines
 
 -- the ops of a log
 abbrev pub ops_of : Turns → ℕ → List Line → List Op

@@ -10,11 +10,7 @@ use ng_mtrace::Line;
 use std::alloc::{AllocError, Global};
 
 /// Of each line the log's own op that it takes.
-pub fn owns(
-    alloc: Global,
-    names: &[u64],
-    lines: &[Line],
-) -> Result<Vec<Option<u32>>, AllocError>
+pub fn owns(alloc: Global, names: &[u64], lines: &[Line]) -> Result<Vec<Option<u32>>, AllocError>
     requires rising { Rises names.now }
     requires known { All (IsKnown names.now) lines.now }
     requires few { length lines.now ≤ 1000000 }

@@ -135,7 +135,13 @@ fn all_ops(
 {
     let mut all = Items::new(alloc);
     for (at, log) in logs.iter().enumerate() {
-        let ops = log_ops(alloc, schedule, at as u32, log.lines.as_slice(), owns[at].as_slice())?;
+        let ops = log_ops(
+            alloc,
+            schedule,
+            at as u32,
+            log.lines.as_slice(),
+            owns[at].as_slice(),
+        )?;
         all.push(ops)?;
     }
     Ok(all)

@@ -9,11 +9,7 @@ use ng_terms::Items;
 use std::alloc::{AllocError, Global};
 
 /// All turns of the logs.
-pub fn all_turns(
-    alloc: Global,
-    names: usize,
-    logs: &[Items<Step>],
-) -> Result<Schedule, AllocError>
+pub fn all_turns(alloc: Global, names: usize, logs: &[Items<Step>]) -> Result<Schedule, AllocError>
     requires few { length logs.now ≤ 16 }
     requires short { sum_by length logs.now ≤ 1000000 }
     requires numbers { All (All (IsNumbered names)) logs.now }

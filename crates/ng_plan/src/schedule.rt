@@ -23,12 +23,7 @@ pub struct Schedule {
 
 impl Schedule {
     /// No turn yet.
-    pub fn new(
-        alloc: Global,
-        names: usize,
-        logs: usize,
-        ops: usize,
-    ) -> Result<Schedule, AllocError>
+    pub fn new(alloc: Global, names: usize, logs: usize, ops: usize) -> Result<Schedule, AllocError>
         ensures logs { IfOk result (λ schedule. length schedule.done.items ≡ logs) }
         ensures names { IfOk result (λ schedule. length schedule.queues.each.items ≡ names) }
         ensures start { IfOk result (λ schedule. (names : List ℕ) (steps : List (List Step)) → Rises names

@@ -31,7 +31,13 @@ pub fn steps(
     };
     let mut ending: Vec<bool> = vec![in alloc; false; names.len()]?;
     let mut steps: Vec<Step> = vec![in alloc; none; lines.len()]?;
-    fill(names, lines, owns, ending.as_mut_slice(), steps.as_mut_slice());
+    fill(
+        names,
+        lines,
+        owns,
+        ending.as_mut_slice(),
+        steps.as_mut_slice(),
+    );
     Ok(steps)
 }
 

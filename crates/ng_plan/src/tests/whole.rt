@@ -62,7 +62,11 @@ fn a_block_is_handed_to_its_own_log(rt: HostRuntime) -> Result<(), Fail> {
 
 #[test]
 fn a_claim_that_waits_in_vain_is_skipped(rt: HostRuntime) -> Result<(), Fail> {
-    let plan = plan_of_two(rt.alloc(), &[ended(32), made(16, 20)], &[ended(16), made(16, 20)])?;
+    let plan = plan_of_two(
+        rt.alloc(),
+        &[ended(32), made(16, 20)],
+        &[ended(16), made(16, 20)],
+    )?;
     let first = [free(32, Origin::Skip), make(16, 20, Some(1))];
     let second = [free(16, Origin::Claim(1)), make(16, 20, None)];
     assert_eq!(rt; plan.logs.len(), 2);
@@ -78,7 +82,11 @@ fn the_earliest_block_is_taken_first(rt: HostRuntime) -> Result<(), Fail> {
     let makes = [made(16, 1), made(16, 2), made(16, 3)];
     let takes = [ended(16), moved(16, 16, 4), ended(16)];
     let plan = plan_of_two(rt.alloc(), &makes, &takes)?;
-    let first = [make(16, 1, Some(1)), make(16, 2, Some(2)), make(16, 3, None)];
+    let first = [
+        make(16, 1, Some(1)),
+        make(16, 2, Some(2)),
+        make(16, 3, None),
+    ];
     let to_itself = Op::Move {
         old: 16,
         name: 16,
@@ -86,7 +94,11 @@ fn the_earliest_block_is_taken_first(rt: HostRuntime) -> Result<(), Fail> {
         size: 4,
         to: None,
     };
-    let second = [free(16, Origin::Claim(1)), to_itself, free(16, Origin::Own(1))];
+    let second = [
+        free(16, Origin::Claim(1)),
+        to_itself,
+        free(16, Origin::Own(1)),
+    ];
     assert_eq!(rt; plan.logs.len(), 2);
     assert_eq!(rt; plan.logs.as_slice()[0].as_slice(), first.as_slice());
     assert_eq!(rt; plan.logs.as_slice()[1].as_slice(), second.as_slice());

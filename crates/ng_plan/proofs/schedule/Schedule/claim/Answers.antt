@@ -14,5 +14,5 @@ returns-clause-turns c = λ names turns are.
     let name : ℕ = get_or names c.args.name 0 in
     let made : c.push.new.self.items ≡ c.args.self.now.makers.items ++ c.in-Some.maker ∷ [] = search (rules, c.in_ok-push.ensures.items) in
     let took : c.push-2.new.self.items ≡ c.args.self.now.takers.items ++ record { log = c.args.log; op = get_or c.args.self.now.done.items c.args.log 0 } ∷ [] =
-        search (rules, c.in_ok-push-2.ensures.items) ∙ ap (λ (op : ℕ). c.args.self.now.takers.items ++ record { log = c.args.log; op = op } ∷ []) (get_or_read c.args.self.now.done.items c.args.log c.index-op.result.now c.requires.log c.index-op.ensures 0) in
+    search (rules, c.in_ok-push-2.ensures.items) ∙ ap (λ (op : ℕ). c.args.self.now.takers.items ++ record { log = c.args.log; op = op } ∷ []) (get_or_read c.args.self.now.done.items c.args.log c.index-op.result.now c.requires.log c.index-op.ensures 0) in
     block_found names c.args.self.now c.take.new.self c.push.new.self c.push-2.new.self c.in-Some.maker turns c.args.log name (earliest name turns.posted) refl (sym c.in-Some.is ∙ c.take.ensures.earliest names turns.posted are.rising are.long are.queues) are (are.long ∙ sym c.take.ensures.same) (c.take.ensures.left names turns.posted are.rising are.long are.queues) made took
