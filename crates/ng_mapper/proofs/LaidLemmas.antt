@@ -1,10 +1,10 @@
 -- What a caller knows of the live runs of any mapper, by the trait's law `laid`.
-use Rattle.std.proofs.Common.{ℕ, ◌≡◌, ◌≢◌, ◌+◌, ◌*◌, ◌<◌, ◌≤◌, ◌∙◌, ◌⊎◌, inl, inr, ⊎_elim, sym, ap, arith, List, length, Contains, slice_index_or}
+use Rattle.std.proofs.Common.{ℕ, ◌≡◌, ◌≢◌, ◌<◌, ◌≤◌, ◌∙◌, inl, inr, ⊎_elim, sym, ap, List, Contains, slice_index_or}
 use Rattle.std.proofs.lemmas.Bool.{cases_lt}
 use Rattle.std.proofs.lemmas.List.{get_or_default}
 use Rattle.std.proofs.lemmas.List.Elements.{All-contains}
 use Rattle.std.proofs.Math.Nat.{eq-or-lt_of_le}
-use Rattle.ng_mapper.specs.Runs.{Run, run_end, AreApart, LiesIn}
+use Rattle.ng_mapper.specs.Runs.{Run, AreApart, LiesIn}
 use Rattle.ng_mapper.specs.Mapping.{Span, AreLaid}
 
 -- apart is symmetric

@@ -1,4 +1,4 @@
-ghost use Rattle.std.specs.Prelude.{◌≡◌, ◌<◌, ◌≤◌, ◌^◌, IfSome, IfNone};
+ghost use Rattle.std.specs.Prelude.{◌≤◌, IfSome, IfNone};
 ghost use Rattle.ng_mapper.specs.Holes.{whole, IsLowest, HasNoHole};
 ghost use Rattle.ng_mapper.specs.InOrder.{AreInOrder, Fits};
 

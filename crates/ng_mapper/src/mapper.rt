@@ -1,4 +1,4 @@
-ghost use Rattle.std.specs.Prelude.{◌≡◌, ◌≢◌, All, ◌≤◌, ◌↔◌, List, ◌∷◌, IfOk, IfErr, IfSome, IsNone, OnOk, OnErr, Contains, IsPermutation, sum_by};
+ghost use Rattle.std.specs.Prelude.{◌≡◌, ◌≢◌, ◌≤◌, ◌↔◌, List, All, Contains, IfOk, IfErr, IfSome, IsNone, OnOk, OnErr, sum_by};
 ghost use Rattle.ng_terms.specs.Causes.{HasCause};
 ghost use Rattle.ng_mapper.specs.declared.refusals.Refusals.{Refusals};
 ghost use Rattle.ng_mapper.specs.Runs.{Run, AddsRun, RemovesRun};
@@ -33,7 +33,8 @@ pub trait Mapper {
         ensures lower { result.0 ≡ (span self.now).lower }
         ensures upper { result.1 ≡ (span self.now).upper };
 
-    /// A new run of so many pages, by its address.
+    /// A new run of so many pages, by its address. A refused call is counted, and leaves the live
+    /// runs as they were.
     fn map(&mut self, pages: u64) -> Result<u64, Refused>
         requires { 1 ≤ pages }
         ensures free { IfOk result (λ at. IsFree (span self.old) (runs self.old) (at, pages)) }
@@ -47,7 +48,7 @@ pub trait Mapper {
 
         ensures constant { span self.new ≡ span self.old };
 
-    /// Takes a live run back.
+    /// Takes a live run back. It can't fail.
     fn unmap(&mut self, addr: u64, pages: u64)
         requires { Contains (runs self.old) (addr, pages) }
         ensures unmapped { RemovesRun (runs self.old) (runs self.new) (addr, pages) }

@@ -1,4 +1,4 @@
-ghost use Rattle.std.specs.Prelude.{◌≡◌, ◌≢◌, ◌<◌, ◌≤◌, insert, length, vec_len, vec_capacity, sum_by, All, AllPairs, IfSome, IfNone, IsTrue, ◌↔◌, Contains};
+ghost use Rattle.std.specs.Prelude.{◌≡◌, ◌≢◌, ◌<◌, ◌≤◌, ◌↔◌, length, insert, vec_len, vec_capacity, sum_by, All, AllPairs, Contains, IfSome, IfNone, IsTrue};
 ghost use Rattle.ng_mapper.specs.Holes.{whole};
 ghost use Rattle.ng_mapper.specs.InOrder.{AreInOrder, EndsBefore, run_of};
 

@@ -33,25 +33,31 @@ none_by_length digits out =
     out)
 
 -- a byte that is no digit spoils the number
-pub none_by_digit : (digits : List ℕ) (i : ℕ) → i < length digits → 16 ≤ digit_value (get_or digits i 0) → None ≡ number_of digits
+pub none_by_digit : (digits : List ℕ) (i : ℕ)
+    → i < length digits → 16 ≤ digit_value (get_or digits i 0) → None ≡ number_of digits
 unfolding number_of
 none_by_digit digits i within large =
     let off : is_digit (get_or digits i 0) 16 ≡ false = grind (arith, nat_tests) in
     let all : list_all (λ byte. is_digit byte 16) digits ≡ false = list_all_at (λ byte. is_digit byte 16) digits i 0 within off in
     none_if _ (Some (digits_value 16 digits)) (third_off (leb 1 (length digits)) (leb (length digits) 16) (list_all (λ byte. is_digit byte 16) digits) all)
 
-pub number_is : (digits : List ℕ) → 0 < length digits → length digits ≤ 16 → list_all (λ byte. is_digit byte 16) digits ≡ true → Some (digits_value 16 digits) ≡ number_of digits
+-- the number that digits write
+pub number_is : (digits : List ℕ)
+    → 0 < length digits → length digits ≤ 16 → list_all (λ byte. is_digit byte 16) digits ≡ true → Some (digits_value 16 digits) ≡ number_of digits
 unfolding number_of
 number_is digits some few all =
     let first : leb 1 (length digits) ≡ true = grind (arith, nat_tests) in
     let second : leb (length digits) 16 ≡ true = grind (arith, nat_tests) in
     rw first (rw second (rw all refl))
 
-pub all_more : (digits : List ℕ) (i : ℕ) → i < length digits → list_all (λ byte. is_digit byte 16) (take i digits) ≡ true → digit_value (get_or digits i 0) < 16 → list_all (λ byte. is_digit byte 16) (take (i + 1) digits) ≡ true
+-- one digit more
+pub all_more : (digits : List ℕ) (i : ℕ) → i < length digits
+    → list_all (λ byte. is_digit byte 16) (take i digits) ≡ true → digit_value (get_or digits i 0) < 16 → list_all (λ byte. is_digit byte 16) (take (i + 1) digits) ≡ true
 all_more digits i within all small =
     let on : is_digit (get_or digits i 0) 16 ≡ true = grind (arith, nat_tests) in
     list_all_more (λ byte. is_digit byte 16) digits i 0 within ∙ rw (all, on) refl
 
+-- sixteen digits keep below 2 ^ 64
 pub power : (i : ℕ) → i < 16 → 16 ^ i ≤ 16 ^ 15
 power i below = pow-le-pow_right {n = 16} (omega arith) {i = i} {j = 15} (omega arith)
 

@@ -52,11 +52,13 @@ no_more bytes read (Some left) taken =
 no_more bytes read None taken = absurd cc
 
 -- a told input that was read in the form is in the form
-pub form-read : (bytes : List ℕ) (now : Option (List ℕ)) (logs : List Log) → (read : ReadsFirst (Some bytes) now logs) → IsFirstForm bytes read.lines
+pub form-read : (bytes : List ℕ) (now : Option (List ℕ)) (logs : List Log)
+    → (read : ReadsFirst (Some bytes) now logs) → IsFirstForm bytes read.lines
 form-read bytes now logs read = rw (whole bytes read.bytes now read.taken read.ended) read.form
 
 -- a told input that was read in another form isn't in the form
-pub form-other : (bytes : List ℕ) (now : Option (List ℕ)) (lines : List Line) → ReadsOther (Some bytes) now → IsFirstForm bytes lines → ⊥
+pub form-other : (bytes : List ℕ) (now : Option (List ℕ)) (lines : List Line)
+    → ReadsOther (Some bytes) now → IsFirstForm bytes lines → ⊥
 form-other bytes now lines read form =
     ⊎_elim
     (λ (ended : AtEnd now). read.other lines (rw (whole bytes read.bytes now read.taken ended) at form))
@@ -86,22 +88,27 @@ positive : (o : Option ℕ) (name : ℕ) → option_and_then (λ n. cond (n == 0
 positive (Some n) name same = none_or_more n name same
 positive None name same = absurd cc
 
-end_plain : (sign : Bool) (o : Option ℕ) (line : Line) → ((name : ℕ) → o ≡ Some name → 0 < name) → cond sign (option_map (λ name. End name) o) None ≡ Some line → IsPlain line
+end_plain : (sign : Bool) (o : Option ℕ) (line : Line) → ((name : ℕ) → o ≡ Some name → 0 < name)
+    → cond sign (option_map (λ name. End name) o) None ≡ Some line → IsPlain line
 end_plain true (Some name) line more same = let is : End name ≡ line = cc in subst IsPlain is (more name refl)
 end_plain true None line more same = absurd cc
 end_plain false o line more same = absurd cc
 
-make_plain : (sign : Bool) (o size : Option ℕ) (line : Line) → ((name : ℕ) → o ≡ Some name → 0 < name) → cond sign (option_and_then (λ name. option_map (λ n. Make name n) size) o) None ≡ Some line → IsPlain line
+make_plain : (sign : Bool) (o size : Option ℕ) (line : Line) → ((name : ℕ) → o ≡ Some name → 0 < name)
+    → cond sign (option_and_then (λ name. option_map (λ n. Make name n) size) o) None ≡ Some line → IsPlain line
 make_plain true (Some name) (Some size) line more same = let is : Make name size ≡ line = cc in subst IsPlain is (more name refl)
 make_plain true (Some name) None line more same = absurd cc
 make_plain true None size line more same = absurd cc
 make_plain false o size line more same = absurd cc
 
+-- a line that tokens write is plain
 line_plain : (tokens : List (List ℕ)) (line : Line) → line_from tokens ≡ Some line → IsPlain line
 line_plain [] line same = absurd cc
 line_plain (sign ∷ []) line same = absurd cc
-line_plain (sign ∷ ptr ∷ []) line same = end_plain (bytes_eq sign (codes "-")) (name_of ptr) line (positive (hex_of ptr)) same
-line_plain (sign ∷ ptr ∷ size ∷ []) line same = make_plain (bytes_eq sign (codes "+")) (name_of ptr) (hex_of size) line (positive (hex_of ptr)) same
+line_plain (sign ∷ ptr ∷ []) line same =
+    end_plain (bytes_eq sign (codes "-")) (name_of ptr) line (positive (hex_of ptr)) same
+line_plain (sign ∷ ptr ∷ size ∷ []) line same =
+    make_plain (bytes_eq sign (codes "+")) (name_of ptr) (hex_of size) line (positive (hex_of ptr)) same
 line_plain (sign ∷ ptr ∷ size ∷ more ∷ rest) line same = absurd cc
 
 all_plain : (texts : List (List ℕ)) (lines : List Line) → map line_of texts ≡ map (λ line. Some line) lines → All IsPlain lines

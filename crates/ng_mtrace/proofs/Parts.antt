@@ -15,6 +15,7 @@ use Rattle.ng_mtrace.specs.Text.{parts_at}
 some_is_not_none : (n : ℕ) → Some n ≡ None → ⊥
 some_is_not_none n same = cc
 
+-- where no element passes, none is the first
 none_first : (p : ℕ → Bool) (xs : List ℕ) → position p xs ≡ None → length xs ≤ position_or_len p xs
 none_first p xs none =
     ⊎_elim
@@ -29,13 +30,15 @@ parts_at-none cut text none =
     let last : length text ≤ position_or_len (λ byte. byte == cut) text = none_first (λ byte. byte == cut) text none in
     slice_split_none (λ byte. byte == cut) text (All-from_get_or (λ byte. (byte == cut) ≡ false) text 0 (λ k within. fails_before_first (λ byte. byte == cut) text k 0 (omega arith)))
 
+-- a text round one of its places
 whole_from : (text : List ℕ) (at : ℕ) → at < length text → text ≡ take at text ++ get_or text at 0 ∷ drop (at + 1) text
 whole_from text at within =
     let next : at + 1 ≡ suc at = omega arith in
     rw next (sym (rw (← drop-cons text at 0 within) (take-append-drop at text)))
 
 -- a text with the byte: what stands before the first one, and the parts of what stands behind it
-pub parts_at-some : (cut : ℕ) (text : List ℕ) (at : ℕ) → position (λ byte. byte == cut) text ≡ Some at → parts_at cut text ≡ take at text ∷ parts_at cut (drop (at + 1) text)
+pub parts_at-some : (cut : ℕ) (text : List ℕ) (at : ℕ)
+    → position (λ byte. byte == cut) text ≡ Some at → parts_at cut text ≡ take at text ∷ parts_at cut (drop (at + 1) text)
 unfolding parts_at
 parts_at-some cut text at found =
     let first : (at < length text) × ((get_or text at 0 == cut) ≡ true) × ((k : ℕ) → k < at → (get_or text k 0 == cut) ≡ false) = position-Some (λ byte. byte == cut) text at 0 found in
@@ -45,7 +48,8 @@ parts_at-some cut text at found =
     ap (λ bytes. slice_split (λ byte. byte == cut) bytes) (whole_from text at first.0) ∙ slice_split_at (λ byte. byte == cut) (take at text) (get_or text at 0) (drop (at + 1) text) before first.1
 
 -- the same, as a slice from that place on has it
-pub parts_at-cut : (cut : ℕ) (text : List ℕ) (at : ℕ) → position (λ byte. byte == cut) text ≡ Some at → parts_at cut text ≡ take at text ∷ parts_at cut (take (length text - (at + 1)) (drop (at + 1) text))
+pub parts_at-cut : (cut : ℕ) (text : List ℕ) (at : ℕ) → position (λ byte. byte == cut) text ≡ Some at
+    → parts_at cut text ≡ take at text ∷ parts_at cut (take (length text - (at + 1)) (drop (at + 1) text))
 parts_at-cut cut text at found =
     let all : take (length text - (at + 1)) (drop (at + 1) text) ≡ drop (at + 1) text = take_all (length text - (at + 1)) (drop (at + 1) text) (omega (arith, length-drop (at + 1) text)) in
     rw all (parts_at-some cut text at found)

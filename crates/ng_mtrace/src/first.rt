@@ -3,11 +3,10 @@ ghost use Rattle.ng_mtrace.specs.FirstForm.{one_log, ReadsFirst, ReadsOther};
 ghost use Rattle.ng_terms.specs.Causes.{Rose};
 
 use crate::first_form::first_lines;
-use crate::items::Items;
 use crate::log::{Line, Log, Logs};
 use crate::reading::{ReadFault, read_whole};
 use crate::stream::Source;
-use ng_terms::Host;
+use ng_terms::{Host, Items};
 use std::alloc::Global;
 
 /// The most bytes of an input in the first form.
@@ -53,9 +52,9 @@ fn one_log_of(alloc: Global, lines: Vec<Line>) -> Result<Logs, FirstFault>
     ensures host { IfErr result (λ fault. fault ≡ FirstFault.Host) }
 {
     let log = Log {
-        lines: Items::new(lines),
+        lines: Items::from_vec(lines),
     };
-    let mut logs = Items::new(Vec::new(alloc));
+    let mut logs = Items::new(alloc);
     let Ok(()) = logs.push(log) else {
         return Err(FirstFault::Host);
     };

@@ -1,4 +1,4 @@
-use crate::items::Items;
+use ng_terms::Items;
 
 /// A line of a log: a block is made, ended, or moved. Its pointer in the log is the block's name.
 #[derive(Clone, Copy, Debug, PartialEq, Eq)]

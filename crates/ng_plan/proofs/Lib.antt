@@ -1,6 +1,16 @@
 pub mod FirstLemmas
 pub mod FirstSound
+pub mod FitLemmas
 pub mod KnownLemmas
+pub mod LogLemmas
 pub mod MakerLemmas
+pub mod OpLemmas
+pub mod OwnLemmas
+pub mod QueueLemmas
+pub mod RoundLemmas
+pub mod Rows
+pub mod ScheduleLemmas
 pub mod SortedLemmas
+pub mod StepLemmas
 pub mod TableLemmas
+pub mod TurnLemmas

@@ -3,13 +3,13 @@ use Rattle.std.proofs.Common.{◌≡◌, ℕ, zero, suc, ◌+◌, ◌<◌, ◌�
 use Rattle.std.proofs.lemmas.Bool.{cases_eq, cases_lt, eqb-true, false≢true}
 use Rattle.std.proofs.lemmas.List.{take_more}
 use Rattle.ng_mtrace.specs.declared.log.Line.{Line}
-use Rattle.ng_mtrace.specs.declared.log.Line.TheVariants.{End}
+use Rattle.ng_mtrace.specs.declared.log.Line.TheVariants.{Make}
 use Rattle.ng_plan.specs.Mentions.{ended, made, is_name, maker_then, maker}
 use Rattle.ng_plan.proofs.TableLemmas.{maker_push, eqb-same}
 
--- the line at a place; an end of nothing past the last
+-- the line at a place; a make of nothing past the last
 abbrev pub line_at : List Line → ℕ → Line
-line_at lines i = get_or lines i (End 0)
+line_at lines i = get_or lines i (Make 0 0)
 
 -- the line at this place makes the name, and none of the lines behind it, up to here, mentions the name
 pub record IsMaker (lines : List Line) (name op upto : ℕ) : Type 0 where
@@ -68,7 +68,7 @@ maker_is lines name op zero within is = absurd (some_none op (sym is))
 maker_is lines name op (suc n) within is =
     let last : n < length lines = omega arith in
     let count : length (take n lines) ≡ n = omega (arith, length-take {A = Line}) in
-    let pushed : take (n + 1) lines ≡ take n lines ++ line_at lines n ∷ [] = take_more lines n (End 0) last in
+    let pushed : take (n + 1) lines ≡ take n lines ++ line_at lines n ∷ [] = take_more lines n (Make 0 0) last in
     let step : maker name (take (n + 1) lines) ≡ maker_then name n (line_at lines n) (maker name (take n lines)) =
     ap (maker name) pushed ∙ maker_push name (take n lines) (line_at lines n) ∙ ap (λ (k : ℕ). maker_then name k (line_at lines n) (maker name (take n lines))) count in
     let next : suc n ≡ n + 1 = omega arith in

@@ -1,12 +1,12 @@
 -- Tables by the numbers of names, one more line.
-use Rattle.std.proofs.Common.{◌≡◌, ℕ, ◌+◌, ◌<◌, ◌≤◌, true, false, List, [], ◌∷◌, ◌++◌, length, Option, Some, None, eqb, get_or, sym, ap, ◌∙◌, arith, ⊎_elim, add-zero}
+use Rattle.std.proofs.Common.{◌≡◌, ℕ, ◌+◌, ◌<◌, ◌≤◌, true, false, List, [], ◌∷◌, ◌++◌, length, Option, Some, None, eqb, get_or, set, sym, ap, ◌∙◌, arith, ⊎_elim, add-zero}
 use Rattle.std.specs.Prelude.{Contains}
 use Rattle.std.proofs.lemmas.Bool.{cases_eq, cases_lt}
 use Rattle.std.proofs.lemmas.Bool.Decides.{nat_tests}
-use Rattle.std.proofs.lemmas.List.{get_or_read}
+use Rattle.std.proofs.lemmas.List.{get_or_read, get_or-set_same, get_or-set_other}
 use Rattle.ng_mtrace.specs.declared.log.Line.{Line}
-use Rattle.ng_plan.specs.Mentions.{is_name, maker_then, maker_from, maker}
-use Rattle.ng_plan.specs.Tables.{Rises}
+use Rattle.ng_plan.specs.Mentions.{made, is_name, maker_then, maker_from, maker}
+use Rattle.ng_plan.specs.Tables.{Rises, AreMakers, AreEnded}
 
 -- one more line at the end
 maker_from_push : (name number : ℕ) (before : Option ℕ) (lines : List Line) (line : Line) → maker_from name number before (lines ++ line ∷ []) ≡ maker_then name (number + length lines) line (maker_from name number before lines)
@@ -41,6 +41,15 @@ name_here names at i name is same = eqb-same name (get_or names i 0) (sym (ap (�
 
 pub name_there : (names : List ℕ) (at i name : ℕ) → Rises names → at < length names → i < length names → get_or names at 0 ≡ name → (i ≡ at → ⊥) → is_name (get_or names i 0) (Some name) ≡ false
 name_there names at i name rising within inside is other = eqb-other name (get_or names i 0) (λ same. other (apart names i at rising inside within (sym (is ∙ same))))
+
+-- the table where a line made its name
+pub makes_at : (names : List ℕ) (makers : List (Option ℕ)) (before : List Line) (line : Line) (at name : ℕ) → Rises names → length makers ≡ length names → at < length names → get_or names at 0 ≡ name → made line ≡ Some name → AreEnded names makers before line → AreMakers names (set makers at (Some (length before))) (before ++ line ∷ [])
+makes_at names makers before line at name rising long within is makes table = record {
+  each = λ i inside. rw (maker_push (get_or names i 0) before line) (rw makes (⊎_elim
+      (λ same. rw (name_here names at i name is same) (rw same (get_or-set_same makers at (Some (length before)) None (omega arith))))
+      (λ other. rw (name_there names at i name rising within inside is other) (get_or-set_other makers at i (Some (length before)) None other ∙ table.each i inside))
+      (cases_eq i at)));
+}
 
 -- names that rise don't fall
 pub flat : (names : List ℕ) → Rises names → (i j : ℕ) → i ≤ j → j < length names → get_or names i 0 ≤ get_or names j 0

@@ -1,3 +1,11 @@
+pub mod Blocks
 pub mod First
 pub mod Mentions
+pub mod Numbers
+pub mod Plans
+pub mod Schedules
+pub mod Sound
+pub mod SoundTurns
+pub mod Steps
 pub mod Tables
+pub mod Turns

@@ -1,6 +1,5 @@
 -- Which lines of a log make and end a name: own blocks, claims, and what is handed.
-use Rattle.std.specs.Prelude.{ℕ, ◌+◌, Bool, true, false, List, [], ◌∷◌, ◌==◌, not, Option, Some, None, option_and_then, if◌then◌else◌}
-use Rattle.std.specs.Option.{option_map_or}
+use Rattle.std.specs.Prelude.{ℕ, ◌+◌, Bool, true, false, List, [], ◌∷◌, ◌==◌, Option, Some, None, is_some, option_and_then, if◌then◌else◌}
 use Rattle.ng_mtrace.specs.declared.log.Line.{Line}
 use Rattle.ng_mtrace.specs.declared.log.Line.TheVariants.{Make, End, Move}
 
@@ -44,6 +43,10 @@ ends_next name [] = false
 ends_next name (line ∷ lines) =
     if is_name name (ended line) then true else if is_name name (made line) then false else ends_next name lines
 
--- what a line makes is handed, where these lines come
-abbrev pub is_handed : Line → List Line → Bool
-is_handed line after = option_map_or (λ name. not (ends_next name after)) (made line) false
+-- the name that a line claims, behind these lines: it ends a block that isn't the log's own
+abbrev pub claimed : List Line → Line → Option ℕ
+claimed before line = if is_some (own before line) then None else ended line
+
+-- the name of the block that a line hands, where these lines come: the log doesn't end it next
+abbrev pub handed : Line → List Line → Option ℕ
+handed line after = option_and_then (λ name. if ends_next name after then None else Some name) (made line)

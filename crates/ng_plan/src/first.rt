@@ -1,4 +1,4 @@
-ghost use Rattle.std.specs.Prelude.{◌≡◌, ◌≤◌, ◌++◌, ◌∷◌, [], ℕ, List, length, IfOk, IfSome, OnSome, All, MatchOption, Some, None};
+ghost use Rattle.std.specs.Prelude.{◌≡◌, ◌<◌, ◌^◌, ◌++◌, ◌∷◌, [], ℕ, List, length, IfOk, IfSome, OnSome, All, MatchOption, Some, None};
 ghost use Rattle.std.specs.Option.{option_map};
 ghost use Rattle.ng_mtrace.specs.declared.log.Line.{Line};
 ghost use Rattle.ng_plan.specs.First.{first_op, first_ops, alone, TakesOwn};
@@ -12,7 +12,7 @@ use std::alloc::{AllocError, Global};
 /// The plan of one log of makes and ends, where each end takes a block of the log. `None`: a line moves a block, makes a
 /// name that is made, or ends one that isn't.
 pub fn first_plan(alloc: Global, log: &[Line]) -> Result<Option<Plan>, Host>
-    requires few { length log.now ≤ 1000000 }
+    requires few { length log.now < 2 ^ 32 }
     ensures plan { IfOk result (λ plan. plan ≡ option_map alone (first_ops log.now)) }
 
     // Each end takes an earlier make of its name, which no other end takes.
@@ -46,7 +46,7 @@ fn plan_alone(alloc: Global, ops: Vec<Op>) -> Result<Plan, AllocError>
 
 /// The ops of a log in the first form.
 fn ops_of(alloc: Global, lines: &[Line]) -> Result<Option<Vec<Op>>, AllocError>
-    requires { length lines.now ≤ 1000000 }
+    requires { length lines.now < 2 ^ 32 }
     ensures { IfOk result (λ found. MatchOption found
         (first_ops lines.now ≡ None)
         (λ ops. first_ops lines.now ≡ Some ops.items)) }
@@ -61,7 +61,7 @@ fn ops_of(alloc: Global, lines: &[Line]) -> Result<Option<Vec<Op>>, AllocError>
 fn ops_among(alloc: Global, names: &[u64], lines: &[Line]) -> Result<Option<Vec<Op>>, AllocError>
     requires rising { Rises names.now }
     requires known { All (IsKnown names.now) lines.now }
-    requires few { length lines.now ≤ 1000000 }
+    requires few { length lines.now < 2 ^ 32 }
     ensures { IfOk result (λ found. MatchOption found
         (first_ops lines.now ≡ None)
         (λ ops. first_ops lines.now ≡ Some ops.items)) }

@@ -4,9 +4,19 @@
 mod first;
 mod mentions;
 mod names;
+mod numbers;
+mod ops;
+mod own;
+mod planning;
+mod queues;
+mod rounds;
+mod schedule;
+mod step;
+mod steps;
 
 pub use first::first_plan;
 pub use ng_terms::{Op, Origin, Plan};
+pub use planning::plan;
 
 #[cfg(test)]
 mod tests;

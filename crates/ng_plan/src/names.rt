@@ -1,4 +1,4 @@
-ghost use Rattle.std.specs.Prelude.{◌≡◌, ◌<◌, ℕ, length, slice_index, OnOk, All, Contains};
+ghost use Rattle.std.specs.Prelude.{◌≡◌, ◌<◌, ◌≤◌, ◌+◌, ◌*◌, ℕ, length, vec_len, slice_index, OnOk, All, Contains};
 ghost use Rattle.ng_plan.specs.Tables.{Rises, IsKnown};
 
 use crate::mentions::{ended, made};
@@ -9,6 +9,7 @@ use std::alloc::AllocError;
 pub fn mention_all(names: &mut Vec<u64>, lines: &[Line]) -> Result<(), AllocError>
     ensures known { OnOk result (All (IsKnown names.new.items) lines.now) }
     ensures kept { (name : ℕ) → Contains names.old.items name → Contains names.new.items name }
+    ensures few { vec_len names.new ≤ vec_len names.old + 2 * length lines.now }
 {
     for line in lines {
         mention(names, line)?;
@@ -20,6 +21,7 @@ pub fn mention_all(names: &mut Vec<u64>, lines: &[Line]) -> Result<(), AllocErro
 fn mention(names: &mut Vec<u64>, line: &Line) -> Result<(), AllocError>
     ensures known { OnOk result (IsKnown names.new.items line.now) }
     ensures kept { (name : ℕ) → Contains names.old.items name → Contains names.new.items name }
+    ensures few { vec_len names.new ≤ vec_len names.old + 2 }
 {
     if let Some(name) = ended(line) {
         names.push(name)?;
@@ -34,6 +36,7 @@ fn mention(names: &mut Vec<u64>, line: &Line) -> Result<(), AllocError>
 pub fn each_once(mut names: Vec<u64>) -> Vec<u64>
     ensures rising { Rises result.items }
     ensures known { (name : ℕ) → Contains names.items name → Contains result.items name }
+    ensures few { vec_len result ≤ vec_len names }
 {
     names.sort_unstable();
     names.dedup();

@@ -40,6 +40,7 @@ Fits-alone ops replies lone count fit = record { logs = refl; ops = each }
     one : AllZip (λ (op : Op) (reply : Reply). FitsOp plain (source_of (ops ∷ []) (replies ∷ []) 0 (origin_of op)) op reply) ops replies
     one = AllZip-from_slice_get (λ (op : Op) (reply : Reply). FitsOp plain (source_of (ops ∷ []) (replies ∷ []) 0 (origin_of op)) op reply) ops replies (sym count)
         (λ i op reply there is. rw (source_of-alone ops replies (origin_of op) (λ number. lone.unclaimed i number op there)) (fit i op reply there is))
+
     each : (log : ℕ) → log < 1 → AllZip (λ (op : Op) (reply : Reply). FitsOp plain (source_of (ops ∷ []) (replies ∷ []) log (origin_of op)) op reply) (slice_index_or (ops ∷ []) log []) (slice_index_or (replies ∷ []) log [])
     each zero below = one
     each (suc log) below = absurd (omega arith)
@@ -50,6 +51,7 @@ one-history pages entries history is legal = record { legal = legal; each = each
     each : (log : ℕ) → log < 1 → book_of (log + 1) history ≡ slice_index_or (entries ∷ []) log []
     each zero below = ap (book_of 1) is ∙ book_of-one 1 entries
     each (suc log) below = absurd (omega arith)
+
     numbers : All (λ (e : Event). (1 ≤ e.0) × (e.0 ≤ 1)) history
     numbers = rw is (All-map (λ (e : Event). (1 ≤ e.0) × (e.0 ≤ 1)) (λ (e : Entry). (1, e)) entries (λ k d below. (omega arith, omega arith)))
 
@@ -59,12 +61,14 @@ most-alone before now ops so_far = ⊎_elim inl block so_far
   where
     there : (i : ℕ) (op : Op) → slice_get ops i ≡ Some op → Contains ops op
     there i op is = (i, slice_get_within ops i op is, get_or_from_slice_get ops i op op is)
+
     by_op : (i : ℕ) (op : Op) → slice_get ops i ≡ Some op → size_of op < large → now ≤ pages_for (size_of op) → IsMostBound (alone ops) plain before now
     by_op i (Make name size to) is small most =
         inr (size, record { log = 0; op = Make name size to; there = there i (Make name size to) is; asks = inl refl; small = small }, most)
     by_op i (Free name origin) is small most = inl (omega arith)
     by_op i (Move old name origin size to) is small most =
         inr (size, record { log = 0; op = Move old name origin size to; there = there i (Move old name origin size to) is; asks = inl refl; small = small }, most)
+
     block : (i : ℕ) × (op : Op) × (slice_get ops i ≡ Some op) × (size_of op < large) × (now ≤ pages_for (size_of op)) → IsMostBound (alone ops) plain before now
     block (i, op, is, small, most) = by_op i op is small most
 
@@ -79,7 +83,7 @@ Account-alone ops replies history pages before now lone count fit is legal excus
   history = history;
   one = one-history pages (calls_of_log plain ops replies) history is legal;
   excuses = excused;
-  most = most-alone before.most now.most ops most
+  most = most-alone before.most now.most ops most;
 }
   where
     calls : (log : ℕ) → log < 1 → slice_index_or (calls_of_log plain ops replies ∷ []) log [] ≡ calls_of_log plain (slice_index_or (ops ∷ []) log []) (slice_index_or (replies ∷ []) log [])

@@ -14,7 +14,7 @@ use Rattle.ng_terms.specs.Calls.{origin_of}
 use Rattle.ng_replay.specs.Lone.{IsLone, IsPlainOp}
 
 -- one op in front, where there are ops at all
-with_op-Some : (first : Option Op) (behind : Option (List Op)) (ops : List Op) → with_op first behind ≡ Some ops
+pub with_op-Some : (first : Option Op) (behind : Option (List Op)) (ops : List Op) → with_op first behind ≡ Some ops
     → (op : Op) × (rest : List Op) × (first ≡ Some op) × (behind ≡ Some rest) × (ops ≡ op ∷ rest)
 with_op-Some None behind ops is = absurd (cc)
 with_op-Some (Some op) None ops is = absurd (cc)
@@ -23,13 +23,13 @@ with_op-Some (Some op) (Some rest) ops is = (op, rest, refl, refl, cc)
 first_op-plain : (before : List Line) (this : Line) (op : Op) → first_op before this ≡ Some op → IsPlainOp op
 first_op-plain before (line.Make name size) op is =
     (elim (is_some (maker name before)) as (λ b. cond b None (Some (Make name size None)) ≡ Some op → IsPlainOp op) [
-      true ↦ λ h. absurd (cc)
-    | false ↦ λ h. let same : Make name size None ≡ op = cc in subst IsPlainOp same tt
+      | true ↦ λ h. absurd (cc)
+      | false ↦ λ h. let same : Make name size None ≡ op = cc in subst IsPlainOp same tt
     ]) is
 first_op-plain before (line.End name) op is =
     (elim (maker name before) as (λ m. option_map (λ i. Free name (Own i)) m ≡ Some op → IsPlainOp op) [
-      None ↦ λ h. absurd (cc)
-    | Some i ↦ λ h. let same : Free name (Own i) ≡ op = cc in subst IsPlainOp same tt
+      | None ↦ λ h. absurd (cc)
+      | Some i ↦ λ h. let same : Free name (Own i) ≡ op = cc in subst IsPlainOp same tt
     ]) is
 first_op-plain before (line.Move old name size) op is = absurd (cc)
 
@@ -72,10 +72,13 @@ IsLone-first lines ops is takes = record { unclaimed = unclaimed; earlier = earl
     free_at i maker op there own =
         let (name, same) = plain-own op maker (first_ops-plain [] lines ops is i op there) own in
         (name, there ∙ ap Some same)
+
     unclaimed : (i number : ℕ) (op : Op) → slice_get ops i ≡ Some op → origin_of op ≢ Claim number
     unclaimed i number op there = plain-unclaimed op number (first_ops-plain [] lines ops is i op there)
+
     earlier : (i maker : ℕ) (op : Op) → slice_get ops i ≡ Some op → origin_of op ≡ Own maker → maker < i
     earlier i maker op there own = let (name, at) = free_at i maker op there own in takes.earlier i maker name at
+
     once : (i other maker : ℕ) (op again : Op) → slice_get ops i ≡ Some op → slice_get ops other ≡ Some again → origin_of op ≡ Own maker → origin_of again ≡ Own maker → i ≡ other
     once i other maker op again there there2 own own2 =
         let (name, at) = free_at i maker op there own in

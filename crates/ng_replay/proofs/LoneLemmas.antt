@@ -34,14 +34,17 @@ standing_at-push replies reply op at is = ⊎_elim before behind (cases_lt op (l
   where
     before : op < length replies → ((op < length replies) × (standing_at replies op ≡ Some at)) ⊎ ((op ≡ length replies) × (standing reply ≡ Some at))
     before below = inl (below, rw (get_or_append_left replies (reply ∷ []) Absent op below) at is)
+
     last : length replies ≡ op → ((op < length replies) × (standing_at replies op ≡ Some at)) ⊎ ((op ≡ length replies) × (standing reply ≡ Some at))
     last here = inr (sym here, rw (get_or_push replies reply Absent op here) at is)
+
     past : length replies < op → ((op < length replies) × (standing_at replies op ≡ Some at)) ⊎ ((op ≡ length replies) × (standing reply ≡ Some at))
     past above =
         let long : length (replies ++ reply ∷ []) ≤ op = omega (arith, length_push replies reply) in
         let none : get_or (replies ++ reply ∷ []) op Absent ≡ Absent = get_or_past (replies ++ reply ∷ []) op Absent long in
         let nothing : None ≡ Some at = rw none at is in
         absurd (cc)
+
     behind : length replies ≤ op → ((op < length replies) × (standing_at replies op ≡ Some at)) ⊎ ((op ≡ length replies) × (standing reply ≡ Some at))
     behind above = ⊎_elim last past (eq-or-lt_of_le above)
 
@@ -70,21 +73,24 @@ AreHeld-more ops i replies live now op reply lone here count held carries = reco
   where
     old : (maker at : ℕ) → IsUntaken ops (i + 1) maker → standing_at replies maker ≡ Some at → IsLive now at
     old maker at untaken stands = carries.others at (source-apart ops i replies live op maker at lone here held untaken stands) (held.stand maker at (untaken-before ops i maker untaken) stands)
+
     stand : (maker at : ℕ) → IsUntaken ops (i + 1) maker → standing_at (replies ++ reply ∷ []) maker ≡ Some at → IsLive now at
     stand maker at untaken is = ⊎_elim (λ before. old maker at untaken before.1) (λ last. carries.stands at last.1) (standing_at-push replies reply maker at is)
+
     clash : (maker at : ℕ) → IsUntaken ops (i + 1) maker → standing_at replies maker ≡ Some at → standing reply ≡ Some at → ⊥
     clash maker at untaken stands new = carries.fresh at new (source-apart ops i replies live op maker at lone here held untaken stands) (held.stand maker at (untaken-before ops i maker untaken) stands)
+
     apart : (maker other at : ℕ) → IsUntaken ops (i + 1) maker → IsUntaken ops (i + 1) other → standing_at (replies ++ reply ∷ []) maker ≡ Some at → standing_at (replies ++ reply ∷ []) other ≡ Some at → maker ≡ other
     apart maker other at free1 free2 is1 is2 =
         ⊎_elim
         (λ before. ⊎_elim
-            (λ before2. held.apart maker other at (untaken-before ops i maker free1) (untaken-before ops i other free2) before.1 before2.1)
-            (λ last2. absurd (clash maker at free1 before.1 last2.1))
-            (standing_at-push replies reply other at is2))
+        (λ before2. held.apart maker other at (untaken-before ops i maker free1) (untaken-before ops i other free2) before.1 before2.1)
+        (λ last2. absurd (clash maker at free1 before.1 last2.1))
+        (standing_at-push replies reply other at is2))
         (λ last. ⊎_elim
-            (λ before2. absurd (clash other at free2 before2.1 last.1))
-            (λ last2. last.0 ∙ sym last2.0)
-            (standing_at-push replies reply other at is2))
+        (λ before2. absurd (clash other at free2 before2.1 last.1))
+        (λ last2. last.0 ∙ sym last2.0)
+        (standing_at-push replies reply other at is2))
         (standing_at-push replies reply maker at is1)
 
 -- an element of a list with one more at its end
@@ -93,8 +99,10 @@ slice_get-push xs y z i is = ⊎_elim below last (cases_lt i (length xs))
   where
     read : get_or (xs ++ y ∷ []) i z ≡ z
     read = get_or_from_slice_get (xs ++ y ∷ []) i z z is
+
     below : i < length xs → (slice_get xs i ≡ Some z) ⊎ ((i ≡ length xs) × (y ≡ z))
     below inside = inl (slice_get-get_or xs i z inside ∙ ap Some (rw (get_or_append_left xs (y ∷ []) z i inside) at read))
+
     last : length xs ≤ i → (slice_get xs i ≡ Some z) ⊎ ((i ≡ length xs) × (y ≡ z))
     last behind =
         let inside : i < length xs + 1 = omega (arith, slice_get_within (xs ++ y ∷ []) i z is, length_push xs y) in
@@ -108,6 +116,7 @@ FitSoFar-more ops i replies op reply lone here count fit new = more
   where
     same : (j : ℕ) (other : Op) → j ≤ i → slice_get ops j ≡ Some other → source_in (replies ++ reply ∷ []) (origin_of other) ≡ source_in replies (origin_of other)
     same j other within there = source_in-push replies reply (origin_of other) (λ maker own. let before : maker < j = lone.earlier j maker other there own in omega arith)
+
     more : FitSoFar ops (replies ++ reply ∷ [])
     more j other answer there is = ⊎_elim old last (slice_get-push replies reply answer j is)
       where
@@ -115,6 +124,7 @@ FitSoFar-more ops i replies op reply lone here count fit new = more
         old was =
             let within : j < length replies = slice_get_within replies j answer was in
             rw (same j other (omega arith) there) (fit j other answer there was)
+
         last : (j ≡ length replies) × (reply ≡ answer) → FitsOp plain (source_in (replies ++ reply ∷ []) (origin_of other)) other answer
         last (at_end, is_reply) =
             let at : slice_get ops j ≡ Some op = ap (slice_get ops) (at_end ∙ count) ∙ here in
@@ -153,10 +163,12 @@ MostForOps-more before between now ops i op here so_far one = ⊎_elim group blo
   where
     block : (size_of op < large) × (now ≤ pages_for (size_of op)) → MostForOps before now ops
     block (small, most) = inr (i, op, here, small, most)
+
     group : now ≤ max between 512 → MostForOps before now ops
     group most = ⊎_elim first kept so_far
       where
         first : between ≤ max before 512 → MostForOps before now ops
         first was = inl (omega arith)
+
         kept : (j : ℕ) × (other : Op) × (slice_get ops j ≡ Some other) × (size_of other < large) × (between ≤ pages_for (size_of other)) → MostForOps before now ops
         kept (j, other, there, small, was) = ⊎_elim (λ low. inl (omega arith)) (λ high. inr (j, other, there, small, omega arith)) (cases_lt now 513)

@@ -1,5 +1,6 @@
 -- What a heap's calls enter, and which blocks live after them.
 use Rattle.std.specs.Prelude.{◌≡◌, ◌≢◌, ◌⊎◌, ℕ, ◌+◌, ◌<◌, ◌≤◌, max, false, List, [], ◌∷◌, Option, Some, None}
+use Rattle.ng_mapper.specs.declared.refusals.Refusals.{Refusals}
 use Rattle.ng_terms.specs.declared.entry.Entry.{Entry}
 use Rattle.ng_terms.specs.declared.entry.Entry.TheVariants as entry
 use Rattle.ng_terms.specs.declared.entry.Extent.{Extent}
@@ -7,8 +8,13 @@ use Rattle.ng_terms.specs.declared.refusal.AllocRefusal.{AllocRefusal}
 use Rattle.ng_terms.specs.declared.refusal.AllocRefusal.TheVariants.{NoMemory, TooLarge}
 use Rattle.ng_terms.specs.declared.reply.Mode.{Mode}
 use Rattle.ng_terms.specs.Accounts.{Counts, pages_for}
-use Rattle.ng_terms.specs.Heap.{IsLive, empty, large}
+use Rattle.ng_terms.specs.Heap.{IsLive, Space, empty, large}
 use Rattle.ng_terms.specs.Histories.{Event, state_after}
+
+-- what a heap keeps from its opening on: where blocks may lie, and how many map calls had been refused
+pub record Setting : Type 0 where
+  pub space : Space
+  pub refusals : ℕ
 
 -- the blocks that live after a history
 abbrev pub live_of : List Event → List Extent
@@ -37,3 +43,7 @@ pub record Carries (before now : List Extent) (source standing : Option ℕ) : T
 -- the most refused pages rose for no more than a group, or a block of so many bytes, can need
 abbrev pub MostFor : ℕ → ℕ → ℕ → Type 0
 MostFor before now bytes = (now ≤ max before 512) ⊎ ((bytes < large) × (now ≤ pages_for bytes))
+
+-- what an account needs of a mapper's refusals
+abbrev pub counts_of : Refusals → Counts
+counts_of refused = record { refusals = refused.count; most = refused.most }

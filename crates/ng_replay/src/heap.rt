@@ -1,10 +1,10 @@
 ghost use Rattle.std.specs.Prelude.{◌≡◌, ◌+◌, ◌≤◌, ◌↔◌, ◌++◌, ◌∷◌, [], ℕ, List, max, IfOk, IfErr, OnOk, Err};
-ghost use Rattle.ng_terms.specs.Accounts.{Counts, pages_for};
-ghost use Rattle.ng_terms.specs.Heap.{Space, IsLive, IsTooLarge, MayGive, extent};
+ghost use Rattle.ng_terms.specs.Accounts.{Counts};
+ghost use Rattle.ng_terms.specs.Heap.{IsLive, IsTooLarge, MayGive, extent};
 ghost use Rattle.ng_terms.specs.Histories.{Event};
 ghost use Rattle.ng_terms.specs.declared.entry.Entry.TheVariants.{Give, Take};
 ghost use Rattle.ng_terms.specs.declared.refusal.AllocRefusal.TheVariants as refusal;
-ghost use Rattle.ng_replay.specs.Serving.{live_of, refusal_entry, AddsRefusal};
+ghost use Rattle.ng_replay.specs.Serving.{Setting, live_of, refusal_entry, AddsRefusal};
 
 use ng_terms::AllocRefusal;
 
@@ -16,8 +16,8 @@ pub trait SequentialHeap {
     /// How many more calls may be written down.
     ghost spare: { Self → ℕ };
 
-    /// Where blocks may lie.
-    ghost space: { Self → Space };
+    /// What stays from its opening on.
+    ghost setting: { Self → Setting };
 
     /// What the mapper beneath has refused so far.
     ghost counts: { Self → Counts };
@@ -26,7 +26,7 @@ pub trait SequentialHeap {
     fn malloc(&mut self, caller: u32, n: u64) -> Result<u64, AllocRefusal>
         requires { 1 ≤ spare self.old }
         ensures given { IfOk result (λ at. history self.new ≡ history self.old ++ (caller, Give n 16 at) ∷ []) }
-        ensures legal { IfOk result (λ at. MayGive (space self.old) (live_of (history self.old)) (extent at n 16)) }
+        ensures legal { IfOk result (λ at. MayGive (setting self.old).space (live_of (history self.old)) (extent at n 16)) }
         ensures calm { OnOk result (counts self.new ≡ counts self.old) }
 
         ensures large { (result ≡ Err refusal.TooLarge) ↔ IsTooLarge 1 n 16 }
@@ -34,7 +34,7 @@ pub trait SequentialHeap {
         ensures counted { IfErr result (AddsRefusal (counts self.old) (counts self.new) n) }
 
         ensures spare { spare self.new + 1 ≡ spare self.old }
-        ensures space { space self.new ≡ space self.old };
+        ensures setting { setting self.new ≡ setting self.old };
 
     /// Takes the block at an address back.
     fn free(&mut self, caller: u32, at: u64)
@@ -43,5 +43,5 @@ pub trait SequentialHeap {
         ensures taken { history self.new ≡ history self.old ++ (caller, Take at) ∷ [] }
         ensures calm { counts self.new ≡ counts self.old }
         ensures spare { spare self.new + 1 ≡ spare self.old }
-        ensures space { space self.new ≡ space self.old };
+        ensures setting { setting self.new ≡ setting self.old };
 }

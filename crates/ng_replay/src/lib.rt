@@ -5,6 +5,9 @@ mod heap;
 mod lone;
 mod make;
 mod op;
+mod plain;
+#[cfg(test)]
+mod tests;
 
 pub use heap::SequentialHeap;
 pub use lone::serial_alone;

@@ -25,7 +25,7 @@ pub fn serial_alone<H: SequentialHeap>(
     ensures fit { FitSoFar ops.now replies.new.items }
     ensures history { H.history heap.new ≡ map (λ entry. (caller, entry)) (calls_of_log plain ops.now replies.new.items) }
     ensures most { MostForOps (H.counts heap.old).most (H.counts heap.new).most ops.now }
-    ensures space { H.space heap.new ≡ H.space heap.old }
+    ensures setting { H.setting heap.new ≡ H.setting heap.old }
 {
     for op in ops {
         let source = source_of_op(op, replies.as_slice());

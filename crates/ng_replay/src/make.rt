@@ -14,7 +14,7 @@ pub fn make<H: SequentialHeap>(heap: &mut H, caller: u32, size: u64) -> Made
 
     ensures most { MostFor (H.counts heap.old).most (H.counts heap.new).most size }
     ensures spare { H.spare heap.new + 1 ≡ H.spare heap.old }
-    ensures space { H.space heap.new ≡ H.space heap.old }
+    ensures setting { H.setting heap.new ≡ H.setting heap.old }
 {
     match heap.malloc(caller, size) {
         Ok(at) => Made::Given { at },

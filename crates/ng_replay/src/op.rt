@@ -17,7 +17,7 @@ pub fn do_op<H: SequentialHeap>(heap: &mut H, caller: u32, op: &Op, source: Opti
 
     ensures most { MostFor (H.counts heap.old).most (H.counts heap.new).most (size_of op.now) }
     ensures spare { H.spare heap.old ≤ H.spare heap.new + 2 }
-    ensures space { H.space heap.new ≡ H.space heap.old }
+    ensures setting { H.setting heap.new ≡ H.setting heap.old }
 {
     match *op {
         Op::Make {
@@ -64,7 +64,7 @@ fn free<H: SequentialHeap>(heap: &mut H, caller: u32, from: Origin, source: Opti
 
     ensures calm { H.counts heap.new ≡ H.counts heap.old }
     ensures spare { H.spare heap.old ≤ H.spare heap.new + 1 }
-    ensures space { H.space heap.new ≡ H.space heap.old }
+    ensures setting { H.setting heap.new ≡ H.setting heap.old }
 {
     if from == Origin::Skip {
         return Reply::Skipped;
@@ -88,7 +88,7 @@ fn move_from<H: SequentialHeap>(heap: &mut H, caller: u32, old: u64, size: u64) 
 
     ensures most { MostFor (H.counts heap.old).most (H.counts heap.new).most size }
     ensures spare { H.spare heap.old ≤ H.spare heap.new + 2 }
-    ensures space { H.space heap.new ≡ H.space heap.old }
+    ensures setting { H.setting heap.new ≡ H.setting heap.old }
 {
     match heap.malloc(caller, size) {
         Ok(at) => {

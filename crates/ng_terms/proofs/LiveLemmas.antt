@@ -28,8 +28,8 @@ Contains-filter test (b ∷ bs) block passes (zero, below, is) =
 Contains-filter test (b ∷ bs) block passes (suc k, below, is) =
     let rest : Contains (filter test bs) block = Contains-filter test bs block passes (k, omega arith, is) in
     elim (test b) as (λ t. Contains (cond t (b ∷ filter test bs) (filter test bs)) block) [
-      true ↦ Contains-append_right (b ∷ []) (filter test bs) block rest
-    | false ↦ rest
+      | true ↦ Contains-append_right (b ∷ []) (filter test bs) block rest
+      | false ↦ rest
     ]
 
 -- the filter keeps only elements of the list
@@ -37,13 +37,13 @@ pub Contains-of_filter : (test : Extent → Bool) (live : List Extent) (block : 
 Contains-of_filter test [] block (k, below, is) = absurd (omega arith)
 Contains-of_filter test (b ∷ bs) block there =
     let rest : Contains (filter test bs) block → Contains (b ∷ bs) block =
-        λ h. Contains-append_right (b ∷ []) bs block (Contains-of_filter test bs block h) in
+    λ h. Contains-append_right (b ∷ []) bs block (Contains-of_filter test bs block h) in
     let first : b ≡ block → Contains (b ∷ bs) block = λ is. (0, omega arith, is) in
     let cases : Contains (cond (test b) (b ∷ filter test bs) (filter test bs)) block → Contains (b ∷ bs) block =
-        elim (test b) as (λ t. Contains (cond t (b ∷ filter test bs) (filter test bs)) block → Contains (b ∷ bs) block) [
-          true ↦ λ h. ⊎_elim first rest (Contains-cons_cases b (filter test bs) block h)
-        | false ↦ rest
-        ] in
+    elim (test b) as (λ t. Contains (cond t (b ∷ filter test bs) (filter test bs)) block → Contains (b ∷ bs) block) [
+      | true ↦ λ h. ⊎_elim first rest (Contains-cons_cases b (filter test bs) block h)
+      | false ↦ rest
+    ] in
     cases there
 
 -- a block at another address still lives once one is taken

@@ -127,7 +127,7 @@ pub record Fits (plan : Plan) (mode : Mode) (replies : List (List Reply)) : Type
   pub logs : length replies ≡ length plan.logs
   pub ops : (log : ℕ) → log < length plan.logs
       → AllZip (λ op reply. FitsOp mode (source_of plan.logs replies log (origin_of op)) op reply)
-               (slice_index_or plan.logs log []) (slice_index_or replies log [])
+      (slice_index_or plan.logs log []) (slice_index_or replies log [])
 
 -- the heap call of a make, by its outcome
 abbrev pub calls_of_make : Mode → ℕ → Made → List Entry

@@ -1,7 +1,5 @@
-use Rattle.std.proofs.Common.{arith, rules, ◌+◌, ◌*◌, ◌<◌, ◌≤◌}
+use Rattle.std.proofs.Common.{arith}
 use Rattle.std.proofs.lemmas.Grind.{common_steps}
-use Rattle.ng_mapper.specs.Runs.{run_end}
-use Rattle.ng_mapper.specs.InOrder.{run_of}
 use Rattle.ng_mapper.proofs.run_list.page_sum.Goals as goal
 
 pub loop-run-preserved : goal.loop-run-preserved

@@ -1,4 +1,4 @@
-use Rattle.std.proofs.Common.{◌≡◌, ◌≤◌, ◌<◌, ◌+◌, ◌*◌, ◌^◌, ℕ, length, take, sum_by}
+use Rattle.std.proofs.Common.{◌≡◌, ◌≤◌, ◌<◌, ◌*◌, ℕ, length, take, sum_by}
 use Rattle.ng_mapper.specs.InOrder.{run_of}
 use Rattle.ng_mapper.proofs.run_list.page_sum.Given as goal
 

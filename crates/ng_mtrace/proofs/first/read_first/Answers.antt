@@ -3,7 +3,10 @@ use Rattle.ng_mtrace.proofs.FirstForms.{other-long}
 use Rattle.ng_mtrace.proofs.first.read_first.Goals as goal
 
 pub returns-in-Err-TooLong-clause-not_first : goal.returns-in-Err-TooLong-clause-not_first
-returns-in-Err-TooLong-clause-not_first g c = λ _. other-long (g.I.Source.left c.args.input.now) (g.I.Source.left c.read_whole.new.input) (c.in-Err-TooLong.ensures.long (ap Err c.in-Err-TooLong.field-0-is)) (c.in-Err-TooLong.ensures.taken (ap Err c.in-Err-TooLong.field-0-is))
+returns-in-Err-TooLong-clause-not_first g c = λ _.
+    other-long (g.I.Source.left c.args.input.now) (g.I.Source.left c.read_whole.new.input)
+    (c.in-Err-TooLong.ensures.long (ap Err c.in-Err-TooLong.field-0-is))
+    (c.in-Err-TooLong.ensures.taken (ap Err c.in-Err-TooLong.field-0-is))
 
 pub returns-in-Ok-None-clause-not_first : goal.returns-in-Ok-None-clause-not_first
 returns-in-Ok-None-clause-not_first g c = λ _. record {

@@ -8,6 +8,7 @@ use Rattle.ng_mtrace.proofs.FirstBodies.{body-end, body-more, body-less, body-wr
 use Rattle.ng_mtrace.proofs.Parts.{parts_at-nil, parts_at-empty}
 use Rattle.ng_mtrace.proofs.first_form.body_lines.Goals as goal
 
+-- a length that isn't 0
 full : (n : ℕ) → n ≡ 0 → (n == 0) ≡ false → ⊥
 full n none some = let both : (0 == 0) ≡ false = rw none at some in cc
 
@@ -31,7 +32,10 @@ returns-then-not-is_empty-clause-none c = λ lines whole.
 pub returns-in_default-read_line-clause-none : goal.returns-in_default-read_line-clause-none
 returns-in_default-read_line-clause-none c = λ lines whole.
     let rest = c.loop-text.invariant.back lines whole in
-    body-wrong c.in-Some.text.now (parts_of c.in-Some.behind.now) rest.lines (sym c.in_default-read_line.ensures) (no_word c.in-Some.text.now (codes "= End") c.if-is_word.ensures.equal.1) (rw c.in-Some.ensures.some at rest.body)
+    let text = c.in-Some.text.now in
+    let other = no_word text (codes "= End") c.if-is_word.ensures.equal.1 in
+    body-wrong text (parts_of c.in-Some.behind.now) rest.lines (sym c.in_default-read_line.ensures) other
+    (rw c.in-Some.ensures.some at rest.body)
 
 pub loop-text-preserved : goal.loop-text-preserved
 loop-text-preserved c =

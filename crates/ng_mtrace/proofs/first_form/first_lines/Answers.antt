@@ -10,7 +10,8 @@ returns-in_default-clause-none c = λ lines. form-one_part c.args.text.now lines
 
 pub returns-then-not-is_word-clause-none : goal.returns-then-not-is_word-clause-none
 returns-then-not-is_word-clause-none c = λ lines form.
-    no_word c.in-Some.first.now (codes "= Start") c.if-not-is_word.ensures.equal.1 (form-first c.args.text.now c.in-Some.first.now (parts_of c.in-Some.body.now) lines c.in-Some.ensures.some form)
+    no_word c.in-Some.first.now (codes "= Start") c.if-not-is_word.ensures.equal.1
+    (form-first c.args.text.now c.in-Some.first.now (parts_of c.in-Some.body.now) lines c.in-Some.ensures.some form)
 
 pub returns-clause-some : goal.returns-clause-some
 returns-clause-some c =
@@ -22,4 +23,6 @@ returns-clause-some c =
 
 pub returns-clause-none : goal.returns-clause-none
 returns-clause-none c =
-    weaker_none c.body_lines.result _ _ (λ other lines form. other lines (form-body c.args.text.now c.in-Some.first.now (parts_of c.in-Some.body.now) lines c.in-Some.ensures.some form)) c.body_lines.ensures.none
+    weaker_none c.body_lines.result _ _
+    (λ other lines form. other lines (form-body c.args.text.now c.in-Some.first.now (parts_of c.in-Some.body.now) lines c.in-Some.ensures.some form))
+    c.body_lines.ensures.none

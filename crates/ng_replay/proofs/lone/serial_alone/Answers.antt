@@ -30,5 +30,5 @@ loop-op-preserved g c =
       history = rw grown (history-more _ _ _ _ _ _ c.loop-op.invariant.history (calls_of_log-more ops i before op reply here c.loop-op.invariant.count) c.do_op-reply.ensures.history);
       held = rw grown (AreHeld-more ops i before _ _ op reply c.requires.lone here c.loop-op.invariant.count c.loop-op.invariant.held carries);
       most = MostForOps-more _ _ _ ops i op here c.loop-op.invariant.most c.do_op-reply.ensures.most;
-      space = search rules
+      setting = search rules;
     }

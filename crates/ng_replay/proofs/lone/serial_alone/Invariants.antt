@@ -13,5 +13,5 @@ invariant-loop-op g l = record {
   history : g.H.SequentialHeap.history l.heap ≡ map (λ entry. (l.caller, entry)) (calls_of_log plain (take l.op-index l.ops) l.replies.items);
   held : AreHeld l.ops l.op-index l.replies.items (live_of (g.H.SequentialHeap.history l.heap));
   most : MostForOps (g.H.SequentialHeap.counts l.initial.heap).most (g.H.SequentialHeap.counts l.heap).most l.ops;
-  space : g.H.SequentialHeap.space l.heap ≡ g.H.SequentialHeap.space l.initial.heap;
+  setting : g.H.SequentialHeap.setting l.heap ≡ g.H.SequentialHeap.setting l.initial.heap;
 }

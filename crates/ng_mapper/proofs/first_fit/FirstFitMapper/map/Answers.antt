@@ -1,4 +1,4 @@
-use Rattle.std.proofs.Common.{arith, rules, ◌+◌, ◌≤◌, length, ⊎_elim, Contains, min}
+use Rattle.std.proofs.Common.{arith, rules, ◌+◌, ◌≤◌, length, ⊎_elim, Contains}
 use Rattle.std.proofs.lemmas.List.Sorted.{IsPermutation-insert}
 use Rattle.ng_mapper.specs.FirstFit.{next_number}
 use Rattle.ng_mapper.proofs.RunLemmas.{room-insert, ordered-insert, free-fits, no_hole-insert}

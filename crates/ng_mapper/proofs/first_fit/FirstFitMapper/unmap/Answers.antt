@@ -1,5 +1,6 @@
-use Rattle.std.proofs.Common.{arith, rules}
+use Rattle.std.proofs.Common.{arith, rules, ◌≡◌}
 use Rattle.std.proofs.lemmas.List.Sorted.{IsPermutation-remove}
+use Rattle.ng_mapper.specs.InOrder.{run_of}
 use Rattle.ng_mapper.proofs.RunLemmas.{ordered-remove, run-once, no_hole-whole}
 use Rattle.ng_mapper.proofs.first_fit.FirstFitMapper.unmap.Goals as goal
 
@@ -21,6 +22,6 @@ pub returns-in-Some-clause-unmapped : goal.returns-in-Some-clause-unmapped
 returns-in-Some-clause-unmapped c =
     let mapper = c.args.self.now in
     let within = rw c.deref.ensures.value at c.in-Some.ensures.within in
-    let begins = rw c.deref.ensures.value at c.in-Some.ensures.begins in
+    let begins : (run_of mapper.runs.items c.in-Some.k).0 ≡ c.args.addr = search (rules, c.in-Some.ensures.begins) in
     let this = run-once _ _ mapper.ordered (c.args.addr, c.args.pages) c.requires _ within begins in
     rw c.remove.ensures.items (IsPermutation-remove _ _ _ within this)

@@ -1,0 +1,15 @@
+use ng_terms::Items;
+
+/// What the words ask of the space: its size in pages, and the numbers of the map calls to refuse.
+#[derive(Drop)]
+pub struct Setup {
+    pub pages: u32,
+    pub refuse: Items<u64>,
+}
+
+/// What the words of `serial` ask.
+#[derive(Clone, Copy, Debug, PartialEq, Eq)]
+pub struct Command {
+    /// Whether the report has a line for each call.
+    pub calls_shown: bool,
+}

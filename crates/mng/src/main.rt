@@ -1,0 +1,59 @@
+//! `mng` replays allocation logs through a heap.
+#![tactic(auto)]
+
+mod asked;
+mod prepare;
+mod run;
+mod status;
+#[cfg(test)]
+mod tests;
+mod tool;
+mod words;
+
+use ng_mapper::FirstFit;
+use ng_mtrace::{Input, Output};
+use status::{Status, status_line};
+use std::alloc::{Alloc, Global};
+use std::env::{self, Env};
+use std::io::{self, Print};
+use std::process::ExitCode;
+use tool::tool;
+use words::setup;
+
+fn main(rt: HostRuntime) -> ExitCode {
+    let status = replayed(&rt);
+    if let Ok(line) = status_line(rt.alloc(), &status) {
+        // The exit status tells how the run ended, also where its line can't be printed.
+        let _ = print!(&rt; "{line}");
+    }
+    ExitCode::from(status.number())
+}
+
+/// Does what the words ask, over the standard streams.
+fn replayed(rt: &HostRuntime) -> Status {
+    let alloc = rt.alloc();
+    let Ok(words) = words_of(rt) else {
+        return Status::Host;
+    };
+    let setup = match setup(alloc, words.as_slice()) {
+        Ok(setup) => setup,
+        Err(status) => return status,
+    };
+    let Ok(mapper) = FirstFit::new(alloc, setup.pages, setup.refuse.into_vec()) else {
+        return Status::Host;
+    };
+    let mut input = Input::new(rt.reader());
+    let mut output = Output::new(io::writer(rt));
+    let (status, mapper) = tool(alloc, words.as_slice(), &mut input, &mut output, mapper);
+    drop(mapper);
+    status
+}
+
+/// The words behind the program's name.
+fn words_of<R: Env + Alloc<A = Global>>(rt: &R) -> io::Result<Vec<String>> {
+    let mut words = Vec::new(rt.alloc());
+    for word in env::args(rt)?.skip(1) {
+        words.push(word)?;
+    }
+    Ok(words)
+}

@@ -1,0 +1,66 @@
+ghost use Rattle.std.specs.Prelude.{◌≡◌, ◌↔◌, ◌*◌, ◌≤◌, ◌<◌, ◌^◌, [], sum_by};
+ghost use Rattle.ng_terms.specs.Causes.{Rose};
+ghost use Rattle.mng.specs.Inputs.{RejectsInput};
+ghost use Rattle.mng.specs.Statuses.{IsEarly, TellsLine};
+ghost use Rattle.mng.specs.Tool.{WritesBeginning, WritesReport};
+ghost use Rattle.ng_replay.specs.Serving.{counts_of};
+ghost use Rattle.mng.specs.Words.{texts_of, InLanguage};
+
+use crate::prepare::{op_number, prepare};
+use crate::run::run;
+use crate::status::Status;
+use ng_mapper::Mapper;
+use ng_mtrace::{Sink, Source};
+use ng_terms::Host;
+use plain_heap::PlainHeap;
+use std::alloc::Global;
+
+/// Does what the words ask: `serial` replays the log of the input on a heap over the mapper, and writes the report. It
+/// answers how that ended, and hands the mapper back.
+///
+/// `Host` may come whenever the host has no memory left, but only before the first call of the heap.
+pub fn tool<I: Source, O: Sink, M: Mapper>(
+    alloc: Global,
+    words: &[String],
+    input: &mut I,
+    out: &mut O,
+    mapper: M,
+) -> (Status, M)
+    requires no_runs { M.runs mapper ≡ [] }
+    requires least { 16 ≤ (M.span mapper).size }
+    requires most { (M.span mapper).size ≤ 16384 }
+    requires refusals { (M.refused mapper).count < 2 ^ 62 }
+
+    // All was written: the report of replies that fit, with the books of one legal history.
+    ensures done { result.0 ≡ Status.Done → WritesReport (texts_of words.now)
+        (I.left input.old) (I.left input.new) (M.span mapper).size
+        (counts_of (M.refused mapper)) (counts_of (M.refused result.1)) (sum_by (λ run. run.1) (M.runs result.1))
+        (O.written out.old) (O.written out.new) }
+
+    // A write failed, and a beginning of such a report was written.
+    ensures write_fault { result.0 ≡ Status.WriteFault → Rose (O.faults out.old) (O.faults out.new) }
+    ensures beginning { result.0 ≡ Status.WriteFault → WritesBeginning (texts_of words.now)
+        (I.left input.old) (I.left input.new) (M.span mapper).size
+        (counts_of (M.refused mapper)) (counts_of (M.refused result.1)) (sum_by (λ run. run.1) (M.runs result.1))
+        (O.written out.old) (O.written out.new) }
+
+    // The causes of the other statuses.
+    ensures usage { (result.0 ≡ Status.Usage) ↔ ¬ InLanguage (texts_of words.now) }
+    ensures read_fault { result.0 ≡ Status.ReadFault → Rose (I.faults input.old) (I.faults input.new) }
+    ensures bad_line { result.0 ≡ Status.BadLine 0 → RejectsInput (I.left input.old) (I.left input.new) }
+    ensures line { TellsLine 0 result.0 }
+
+    // With them nothing was written, and the mapper is as it was.
+    ensures nothing { IsEarly result.0 → O.written out.new ≡ O.written out.old }
+    ensures handed_back { IsEarly result.0 → result.1 ≡ mapper }
+{
+    let prepared = match prepare(alloc, words, input) {
+        Ok(prepared) => prepared,
+        Err(status) => return (status, mapper),
+    };
+    let entries = 2 * op_number(&prepared.plan);
+    match PlainHeap::open(alloc, mapper, entries) {
+        Ok(heap) => run(prepared, heap, out),
+        Err((mapper, Host)) => (Status::Host, mapper),
+    }
+}

@@ -1,0 +1,5 @@
+pub mod Ask
+pub mod Policy
+pub mod Musl
+pub mod Bounce
+pub mod Coarse

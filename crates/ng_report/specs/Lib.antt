@@ -1,0 +1,5 @@
+pub mod Counts
+pub mod Digits
+pub mod Kinds
+pub mod Room
+pub mod Summary

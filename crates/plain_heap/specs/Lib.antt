@@ -1,0 +1,4 @@
+pub mod Plain
+pub mod Slots
+pub mod Tables
+pub mod Sound
