@@ -1,13 +1,12 @@
 -- Which metas the rings have, for callers.
-use Rattle.std.proofs.Common.{◌≡◌, ◌≢◌, ◌⊎◌, ℕ, zero, suc, ◌<◌, List, [], ◌∷◌, ◌++◌, length, get_or, set, Contains, Some, refl, ap, sym, subst, inl, inr, ◌∙◌, arith, ⊎_elim, length-set, length-append}
+use Rattle.std.proofs.Common.{◌≡◌, ◌≢◌, ◌⊎◌, ℕ, ◌<◌, List, [], ◌∷◌, ◌++◌, length, Contains, Some, refl, ap, sym, subst, inl, inr, ◌∙◌, arith, ⊎_elim, length-append}
 use Rattle.std.specs.List.{slice_get}
-use Rattle.std.proofs.lemmas.Bool.{cases_eq}
 use Rattle.std.proofs.lemmas.List.{get_or_default, get_or-set_same, get_or-set_other}
-use Rattle.std.proofs.lemmas.List.Elements.{Contains-append_left, Contains-append_right, Contains-append_cases, Contains-get_or, Contains-push, Contains-push_cases}
+use Rattle.std.proofs.lemmas.List.Elements.{Contains-append_left, Contains-append_right, Contains-append_cases, Contains-get_or, Contains-push_cases}
 use Rattle.ng_lists.specs.Rings.{IsListed, RingTable, after, next_in, ring_of, rotated, with_ring, without}
 use Rattle.ng_lists.proofs.ChainLemmas.{Contains-head}
 use Rattle.ng_lists.proofs.CircleLemmas.{only}
-use Rattle.ng_lists.proofs.DistinctLemmas.{IsDistinct, distinct_across, distinct_back, distinct_head}
+use Rattle.ng_lists.proofs.DistinctLemmas.{IsDistinct, distinct_back, distinct_head}
 use Rattle.ng_lists.proofs.RingLemmas.{swapped}
 use Rattle.ng_lists.proofs.TableLemmas.{Split, after-split, first_split, rotated-split, without-split}
 

@@ -9,18 +9,22 @@ use ng_terms::Host;
 use std::alloc::Global;
 use std::marker::Model;
 
-/// The ring of each of the 48 size classes, as the list of its metas' addresses from the first one on. A meta stands
-/// in one ring at most, and there once.
+/// How many size classes have a ring.
+const CLASSES: usize = 48;
+
+/// The ring of each of the 48 size classes: the addresses of its metas, in cyclic order from the first one on. A meta
+/// stands in one ring at most, and there once.
 ///
-/// Each call but `open` does a fixed number of steps, and takes no memory. A page of the space takes 909 bytes of the
-/// host's memory (9 for each of its 101 metas), of which its cells take 8192, and the heads 192 in all.
+/// Each call but `open` does a fixed number of steps and takes no memory. `open` takes 909 bytes for each page of the
+/// space, 9 for each of its 101 metas, and 192 bytes beside these. That is under a sixth of the table of cells, which
+/// has 8192 bytes for each page.
 #[derive(Drop)]
 pub struct Rings {
     /// The pages of the space.
     pages: u32,
-    /// The first meta of each class's ring. An empty ring has one that isn't marked with the class.
+    /// For each class, the index of its ring's first meta, or of one without its mark where the ring is empty.
     heads: Vec<u32>,
-    /// The neighbours of each meta that is in a ring.
+    /// The neighbours in its ring of each meta that is in one.
     links: Links,
     /// For each meta, one more than the class of its ring, or 0 where it is in none.
     marks: Vec<u8>,
@@ -48,7 +52,7 @@ impl Rings {
     {
         let count = (METAS * pages) as usize;
         let links = Links::open(alloc, count)?;
-        let (Ok(heads), Ok(marks)) = (vec![in alloc; 0; 48], vec![in alloc; 0; count]) else {
+        let (Ok(heads), Ok(marks)) = (vec![in alloc; 0; CLASSES], vec![in alloc; 0; count]) else {
             return Err(Host);
         };
         Ok(Rings {
@@ -59,7 +63,7 @@ impl Rings {
         })
     }
 
-    /// The first meta of a ring.
+    /// The first meta of a ring, or `None` where the ring is empty.
     pub fn first(&self, class: u32) -> Option<u64>
         requires class { class < 48 }
         ensures first { result ≡ slice_get (ring_of self.now class) 0 }
@@ -145,10 +149,8 @@ impl Rings {
         let heads = &mut self.heads;
         heads[class as usize] = index_of(meta);
     }
-}
 
-impl Rings {
-    /// What holds of all rings at all times.
+    /// What holds of the rings at all times. It does nothing.
     pub fn stand_once(&self)
         ensures classes { length self.now.rings ≡ 48 }
         ensures places { All (All (λ meta. IsMetaPlace meta self.now.pages)) self.now.rings }

@@ -27,13 +27,17 @@ index-after-requires c =
 
 pub join-requires-clause-from : goal.join-requires-clause-from
 join-requires-clause-from c =
-    let inside : c.index-before.result.now < 101 * c.self.inside.pages =
+    let before : c.index-before.result.now < 101 * c.self.inside.pages =
     prev_inside c.self.invariant c.self.view_is c.requires.class c.args.meta c.index_of-index.ensures c.requires.member c.index-before.ensures in
+    let after : c.index-after.result.now < 101 * c.self.inside.pages =
+    next_inside c.self.invariant c.self.view_is c.requires.class c.args.meta c.index_of-index.ensures c.requires.member c.index-after.ensures in
     omega (arith, c.self.invariant.nexts)
 
 pub join-requires-clause-to : goal.join-requires-clause-to
 join-requires-clause-to c =
-    let inside : c.index-after.result.now < 101 * c.self.inside.pages =
+    let before : c.index-before.result.now < 101 * c.self.inside.pages =
+    prev_inside c.self.invariant c.self.view_is c.requires.class c.args.meta c.index_of-index.ensures c.requires.member c.index-before.ensures in
+    let after : c.index-after.result.now < 101 * c.self.inside.pages =
     next_inside c.self.invariant c.self.view_is c.requires.class c.args.meta c.index_of-index.ensures c.requires.member c.index-after.ensures in
     omega (arith, c.self.invariant.prevs)
 
