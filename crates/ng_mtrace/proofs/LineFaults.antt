@@ -1,27 +1,20 @@
 -- The fault of a line, and the first fault of all.
-use Rattle.std.proofs.Common.{◌≡◌, ℕ, ◌+◌, Bool, true, false, List, [], ◌∷◌, ◌++◌, length, Option, Some, None, refl, sym, ap, ◌∙◌, ◌||◌, ◌&&◌, cond, leb}
+use Rattle.std.proofs.Common.{◌≡◌, ℕ, ◌+◌, Bool, true, false, List, [], ◌∷◌, ◌++◌, length, Option, Some, None, refl, ap, ◌∙◌, ◌&&◌, cond, leb}
 use Rattle.std.specs.Option.{option_or, option_map}
 use Rattle.std.specs.List.{count_by}
-use Rattle.std.specs.Prelude.{fold}
 use Rattle.std.proofs.lemmas.List.{length-append}
 use Rattle.std.proofs.lemmas.List.Sums.{sum_by-append, fold-append}
 use Rattle.ng_mtrace.specs.Text.{parts_of}
 use Rattle.ng_mtrace.specs.Kinds.{kind_of, is_start, is_bad}
 use Rattle.ng_mtrace.specs.Faults.{is_beyond, open_then, is_open, line_fault, first_fault_behind}
 use Rattle.ng_mtrace.specs.OpenSections.{one_if, kind_fault}
-use Rattle.ng_mtrace.specs.PartRead.{faults_from}
+use Rattle.ng_mtrace.specs.PartRead.{fault_at, faults_from}
 use Rattle.ng_mtrace.specs.declared.kind.Kind.{Kind}
 use Rattle.ng_mtrace.specs.declared.log_fault.LogFault.{LogFault}
 use Rattle.ng_mtrace.specs.declared.log_fault.LogFault.TheVariants.{BadLine, Limit, Host}
 use Rattle.ng_mtrace.specs.declared.sections.KindFault.{KindFault}
 use Rattle.ng_mtrace.specs.declared.sections.KindFault.TheVariants as fault
 use Rattle.ng_mtrace.proofs.LineParts.{HasFirst, first_part}
-
--- the fault of a line of this number
-abbrev pub fault_at : ℕ → KindFault → LogFault
-fault_at line fault.TooMany = Limit line
-fault_at line fault.Bad = BadLine line
-fault_at line fault.Host = Host
 
 fault_by : (many bad : Bool) (line : ℕ)
     → cond many (Some (Limit line)) (cond bad (Some (BadLine line)) None)
@@ -55,17 +48,9 @@ faulty_fed lines sections inside line rest why within faulty =
     let some : line_fault lines sections inside line ≡ Some (fault_at (lines + 1) why) = line_fault-kind lines sections inside line within ∙ ap (option_map (fault_at (lines + 1))) faulty in
     rw found.is (rw some refl)
 
-pub many_is_not_host : fault.TooMany ≡ fault.Host → ⊥
-many_is_not_host same = cc
-
-pub bad_is_not_host : fault.Bad ≡ fault.Host → ⊥
-bad_is_not_host same = cc
-
--- the fault of a kind, where it isn't the want of memory
-pub kind_fault-is : (count : ℕ) (active : Bool) (kind other : Kind) (why this : KindFault) → kind ≡ other → why ≡ this
-    → (this ≡ fault.Host → ⊥) → ((why ≡ fault.Host → ⊥) → kind_fault count active kind ≡ Some why) → kind_fault count active other ≡ Some this
-kind_fault-is count active kind other why this same_kind same_why real found =
-    rw (← same_kind) (rw (← same_why) (found (λ host. real (sym same_why ∙ host))))
+-- a line that fails for another cause than memory has a fault of its kind
+pub other_cause : (line : ℕ) (why : KindFault) → (fault_at line why ≡ Host → ⊥) → why ≡ fault.Host → ⊥
+other_cause line why real host = real (ap (fault_at line) host)
 
 cond_one : (b : Bool) → 0 + cond {A = ℕ} b 1 0 ≡ one_if b
 cond_one true = refl
@@ -89,5 +74,5 @@ faults_from-behind before (line ∷ next ∷ parts) =
     let sections : count_by is_start (before ++ kind ∷ []) ≡ count_by is_start before + one_if (is_start kind) = count_by-push before kind in
     let inside : is_open (before ++ kind ∷ []) ≡ open_then (is_open before) kind = is_open-push before kind in
     let rest : faults_from (length before + 1) (count_by is_start before + one_if (is_start kind)) (open_then (is_open before) kind) (next ∷ parts) ≡ first_fault_behind (before ++ kind ∷ []) (next ∷ parts) =
-        rw (← lines, ← sections, ← inside) (faults_from-behind (before ++ kind ∷ []) (next ∷ parts)) in
+    rw (← lines, ← sections, ← inside) (faults_from-behind (before ++ kind ∷ []) (next ∷ parts)) in
     ap (λ (later : Option LogFault). option_or (line_fault (length before) (count_by is_start before) (is_open before) line) later) rest

@@ -1,5 +1,5 @@
 -- The kind of a line, from its last tokens.
-use Rattle.std.proofs.Common.{◌≡◌, ℕ, List, [], ◌∷◌, ap, ◌∙◌, sym}
+use Rattle.std.proofs.Common.{◌≡◌, ℕ, List, [], ◌∷◌, ap, ◌∙◌}
 use Rattle.ng_mtrace.specs.Tokens.{last_tokens}
 use Rattle.ng_mtrace.specs.Kinds.{kind_of, kind_from}
 

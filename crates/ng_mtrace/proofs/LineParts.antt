@@ -1,5 +1,5 @@
 -- The parts of a text, as its bytes come.
-use Rattle.std.proofs.Common.{◌≡◌, ℕ, ◌+◌, ◌<◌, ◌≤◌, ◌⊎◌, ◌==◌, Bool, true, false, List, [], ◌∷◌, ◌++◌, length, Option, Some, None, All, map, refl, sym, ap, ◌∙◌, append_assoc, arith, ⊎_elim, inl, inr, ltb}
+use Rattle.std.proofs.Common.{◌≡◌, ℕ, ◌+◌, ◌<◌, ◌≤◌, ◌⊎◌, ◌==◌, Bool, true, false, List, [], ◌∷◌, ◌++◌, length, Some, None, All, map, refl, ap, ◌∙◌, append_assoc, arith, ⊎_elim, inl, inr, ltb}
 use Rattle.std.specs.List.{slice_split, onto_first}
 use Rattle.std.proofs.lemmas.Bool.{cases_Bool, cases_eq}
 use Rattle.std.proofs.lemmas.Bool.Decides.{nat_tests}
@@ -11,7 +11,6 @@ use Rattle.ng_mtrace.specs.Kinds.{kind_of}
 use Rattle.ng_mtrace.specs.Sections.{whole_of}
 use Rattle.ng_mtrace.specs.Faults.{is_beyond, cut_fault}
 use Rattle.ng_mtrace.specs.PartRead.{faults_from}
-use Rattle.ng_mtrace.specs.declared.log_fault.LogFault.{LogFault}
 use Rattle.ng_mtrace.specs.declared.log_fault.LogFault.TheVariants.{Limit}
 use Rattle.ng_mtrace.proofs.Parts.{parts_at-some_part}
 
@@ -57,10 +56,10 @@ is_beyond-append number a b beyond =
     ⊎_elim
     (λ many. rw many refl)
     (λ few.
-        let long : ltb 4096 (length a) ≡ true = rw few at beyond in
-        let longer : length (a ++ b) ≡ length a + length b = length-append a b in
-        let still : ltb 4096 (length (a ++ b)) ≡ true = grind (arith, nat_tests) in
-        rw few still)
+    let long : ltb 4096 (length a) ≡ true = rw few at beyond in
+    let longer : length (a ++ b) ≡ length a + length b = length-append a b in
+    let still : ltb 4096 (length (a ++ b)) ≡ true = grind (arith, nat_tests) in
+    rw few still)
     (cases_Bool (ltb 1000000 number))
 
 -- a part beyond the limits is the first fault

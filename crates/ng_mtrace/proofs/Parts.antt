@@ -1,7 +1,7 @@
 -- Parts of a text, cut off one by one.
 use Rattle.std.specs.Prelude.{position}
 use Rattle.std.proofs.Common.{◌≡◌, ℕ, suc, ◌+◌, ◌-◌, ◌<◌, ◌≤◌, ◌==◌, Bool, true, false, List, [], ◌∷◌, ◌++◌, length, take, drop, get_or, Some, None, refl, sym, ap, ◌∙◌, arith, ltb, ⊎_elim}
-use Rattle.std.specs.List.{slice_split, All, position_or_len, join_with_byte}
+use Rattle.std.specs.List.{slice_split, position_or_len, join_with_byte}
 use Rattle.std.proofs.lemmas.Bool.{cases_Bool, eqb-true}
 use Rattle.std.proofs.lemmas.Bool.Decides.{nat_tests}
 use Rattle.std.proofs.lemmas.List.{nil_from_length, take_all, take-append-drop, length-drop, length-take, get_or-take}

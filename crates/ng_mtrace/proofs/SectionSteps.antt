@@ -3,7 +3,7 @@ use Rattle.std.proofs.Common.{◌≡◌, ℕ, Bool, true, false, List, [], ◌�
 use Rattle.std.proofs.lemmas.List.{append-nil}
 use Rattle.ng_mtrace.specs.Faults.{open_then}
 use Rattle.ng_mtrace.specs.Kinds.{is_start}
-use Rattle.ng_mtrace.specs.OpenSections.{kind_fault, one_if, is_inner, given, old_then, after_old, open_log, logs_with}
+use Rattle.ng_mtrace.specs.OpenSections.{kind_fault, one_if, is_inner, given, old_then, after_old, logs_with}
 use Rattle.ng_mtrace.specs.Sections.{entries_of, log_of, section_of, sections_of}
 use Rattle.ng_mtrace.specs.declared.kind.Kind.{Kind}
 use Rattle.ng_mtrace.specs.declared.kind.Kind.TheVariants.{Start, Stop, Blank, End, Old, Make, New, Failed, Bad}

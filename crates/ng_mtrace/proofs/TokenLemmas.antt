@@ -1,7 +1,7 @@
 -- Tokens of a line, taken from its end.
-use Rattle.std.proofs.Common.{◌≡◌, ℕ, ◌+◌, ◌-◌, ◌<◌, ◌≤◌, ◌⊎◌, List, [], ◌∷◌, ◌++◌, length, take, drop, get_or, Bool, true, false, reverse, filter, refl, sym, ap, ◌∙◌, arith, append_assoc, ⊎_elim, subst}
+use Rattle.std.proofs.Common.{◌≡◌, ℕ, ◌+◌, ◌-◌, ◌<◌, ◌≤◌, ◌⊎◌, List, [], ◌∷◌, ◌++◌, length, take, drop, get_or, Bool, true, false, reverse, filter, refl, sym, ap, ◌∙◌, arith, append_assoc, ⊎_elim}
 use Rattle.std.specs.List.{slice_split, onto_first, All}
-use Rattle.std.proofs.lemmas.List.{take_more, get_or-drop, get_or-take, length-take, length-drop, reverse-append, take-append-drop}
+use Rattle.std.proofs.lemmas.List.{take_more, get_or-drop, get_or-take, length-take, length-drop, reverse-append}
 use Rattle.std.proofs.lemmas.List.Elements.{filter-append, All-from_get_or}
 use Rattle.std.proofs.lemmas.List.Splits.{slice_split-cons_yes, slice_split-cons_no, slice_split_none, length-slice_split}
 use Rattle.std.proofs.Math.Seq.{take-add}

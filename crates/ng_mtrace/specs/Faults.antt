@@ -25,7 +25,8 @@ is_beyond number line = nat_lt 1000000 number || nat_lt 4096 (length line)
 -- the fault of a line behind so many lines and sections, in a section or not: Limit before BadLine
 abbrev pub line_fault : ℕ → ℕ → Bool → List ℕ → Option LogFault
 line_fault lines sections inside line =
-    if is_beyond (lines + 1) line || (is_start (kind_of line) && nat_le 16 sections) then Some (Limit (lines + 1))
+    if is_beyond (lines + 1) line || (is_start (kind_of line) && nat_le 16 sections)
+    then Some (Limit (lines + 1))
     else if inside && is_bad (kind_of line) then Some (BadLine (lines + 1))
     else None
 
@@ -41,8 +42,8 @@ first_fault_behind before [] = None
 first_fault_behind before (cut ∷ []) = cut_fault (length before) cut
 first_fault_behind before (line ∷ next ∷ parts) =
     option_or
-        (line_fault (length before) (count_by is_start before) (is_open before) line)
-        (first_fault_behind (before ++ kind_of line ∷ []) (next ∷ parts))
+    (line_fault (length before) (count_by is_start before) (is_open before) line)
+    (first_fault_behind (before ++ kind_of line ∷ []) (next ∷ parts))
 
 -- the first fault of a text, in the order of its bytes
 unfoldable pub first_fault : List ℕ → Option LogFault

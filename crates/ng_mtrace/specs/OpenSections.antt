@@ -3,7 +3,7 @@ use Rattle.std.specs.Prelude.{ℕ, ◌≡◌, ◌+◌, ◌≤◌, Bool, true, fa
 use Rattle.ng_mtrace.specs.Kinds.{is_start, is_bad}
 use Rattle.ng_mtrace.specs.Sections.{alone, joined, entries_of, log_of, section_of, sections_of}
 use Rattle.ng_mtrace.specs.declared.kind.Kind.{Kind}
-use Rattle.ng_mtrace.specs.declared.kind.Kind.TheVariants.{Start, Stop, Blank, End, Old, Make, New, Failed, Bad}
+use Rattle.ng_mtrace.specs.declared.kind.Kind.TheVariants.{Start, Stop, Old, New}
 use Rattle.ng_mtrace.specs.declared.log.Line.{Line}
 use Rattle.ng_mtrace.specs.declared.log.Log.{Log}
 use Rattle.ng_mtrace.specs.declared.sections.KindFault.{KindFault}
@@ -38,7 +38,8 @@ after_old (Some old) kinds = Old old ∷ kinds
 
 -- the log of an open section that has these entries, where these lines come
 abbrev pub open_log : Bool → List Line → Option ℕ → List Kind → List Log
-open_log true entries old kinds = record { lines = entries ++ entries_of (after_old old (section_of kinds)) } ∷ []
+open_log true entries old kinds =
+    record { lines = entries ++ entries_of (after_old old (section_of kinds)) } ∷ []
 open_log false entries old kinds = []
 
 -- all logs, where these were read and lines of these kinds come

@@ -9,7 +9,15 @@ use Rattle.ng_mtrace.specs.OpenSections.{one_if, logs_after, count_of, total_in,
 use Rattle.ng_mtrace.specs.declared.log.Log.{Log}
 use Rattle.ng_mtrace.specs.declared.log_fault.LogFault.{LogFault}
 use Rattle.ng_mtrace.specs.declared.log_fault.LogFault.TheVariants.{Read, BadLine, Limit, NoLog, Host}
+use Rattle.ng_mtrace.specs.declared.sections.KindFault.{KindFault}
+use Rattle.ng_mtrace.specs.declared.sections.KindFault.TheVariants as why
 use Rattle.ng_mtrace.specs.declared.part_read.PartRead.{PartRead}
+
+-- the fault of a line of this number
+abbrev pub fault_at : ℕ → KindFault → LogFault
+fault_at line why.TooMany = Limit line
+fault_at line why.Bad = BadLine line
+fault_at line why.Host = Host
 
 -- the first fault of these parts, behind so many lines and sections, in a section or not
 abbrev pub faults_from : ℕ → ℕ → Bool → List (List ℕ) → Option LogFault
@@ -17,12 +25,17 @@ faults_from lines sections inside [] = None
 faults_from lines sections inside (cut ∷ []) = cut_fault lines cut
 faults_from lines sections inside (line ∷ next ∷ parts) =
     option_or
-        (line_fault lines sections inside line)
-        (faults_from (lines + 1) (sections + one_if (is_start (kind_of line))) (open_then inside (kind_of line)) (next ∷ parts))
+    (line_fault lines sections inside line)
+    (faults_from
+    (lines + 1)
+    (sections + one_if (is_start (kind_of line)))
+    (open_then inside (kind_of line))
+    (next ∷ parts))
 
 -- the first fault of a text of which this was read, and these bytes come
 unfoldable pub faults_left : PartRead → List ℕ → Option LogFault
-faults_left r rest = faults_from r.number (count_of r.sections) r.sections.active (parts_of (r.line.items ++ rest))
+faults_left r rest =
+    faults_from r.number (count_of r.sections) r.sections.active (parts_of (r.line.items ++ rest))
 
 -- the logs of a text of which this was read, and these bytes come
 unfoldable pub logs_left : PartRead → List ℕ → List Log

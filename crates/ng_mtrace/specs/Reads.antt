@@ -3,7 +3,6 @@ use Rattle.std.specs.Prelude.{◌≡◌, ◌≤◌, ◌<◌, ℕ, List, ◌++◌
 use Rattle.ng_mtrace.specs.Streams.{put_back, AtEnd}
 use Rattle.ng_mtrace.specs.Sections.{logs_of}
 use Rattle.ng_mtrace.specs.Faults.{first_fault}
-use Rattle.ng_mtrace.specs.declared.log.Log.{Log}
 use Rattle.ng_mtrace.specs.declared.log.Logs.{Logs}
 use Rattle.ng_mtrace.specs.declared.log_fault.LogFault.{LogFault}
 

@@ -3,7 +3,7 @@ use Rattle.std.specs.Prelude.{ℕ, List, [], ◌∷◌, ◌++◌, ◌==◌, map,
 use Rattle.ng_mtrace.specs.Text.{parts_of}
 use Rattle.ng_mtrace.specs.Kinds.{kind_of}
 use Rattle.ng_mtrace.specs.declared.kind.Kind.{Kind}
-use Rattle.ng_mtrace.specs.declared.kind.Kind.TheVariants.{Start, Stop, Blank, End, Old, Make, New, Failed, Bad}
+use Rattle.ng_mtrace.specs.declared.kind.Kind.TheVariants.{Start, Stop, End, Old, Make, New}
 use Rattle.ng_mtrace.specs.declared.log.Log.{Log}
 use Rattle.ng_mtrace.specs.declared.log.Logs.{Logs}
 use Rattle.ng_mtrace.specs.declared.log.Line.{Line}

@@ -34,4 +34,6 @@ pub use stream::{Failed, Sink, Source};
 pub use writing::write_all;
 
 #[cfg(test)]
+mod log_tests;
+#[cfg(test)]
 mod tests;

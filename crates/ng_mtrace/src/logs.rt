@@ -16,6 +16,7 @@ pub fn read_logs<I: Source>(alloc: Global, input: &mut I) -> Result<Logs, LogFau
     ensures ok { IfOk result (λ logs. ReadsLogs (I.left input.old) (I.left input.new) logs) }
     ensures limits { IfOk result IsWithinLimits }
 
+    // A fault is the first in the order of the bytes; where no log is told, all were read.
     ensures read { result ≡ Err LogFault.Read → Rose (I.faults input.old) (I.faults input.new) }
     ensures bad_line { (line : ℕ) → result ≡ Err (LogFault.BadLine line)
         → MeetsFault (LogFault.BadLine line) (I.left input.old) (I.left input.new) }

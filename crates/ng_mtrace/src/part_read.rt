@@ -1,7 +1,7 @@
 ghost use Rattle.std.specs.Prelude.{◌≡◌, ◌≢◌, ◌+◌, ◌≤◌, ◌<◌, ◌++◌, List, ◌∷◌, [], None, Some, IfOk, IfErr, OnOk, ℕ, length, vec_len, vec_capacity};
 ghost use Rattle.ng_mtrace.specs.Faults.{first_fault, is_beyond};
 ghost use Rattle.ng_mtrace.specs.Kinds.{kind_of};
-ghost use Rattle.ng_mtrace.specs.PartRead.{faults_left, logs_left, room_left, IsReady, IsLineFault};
+ghost use Rattle.ng_mtrace.specs.PartRead.{fault_at, faults_left, logs_left, room_left, IsReady, IsLineFault};
 ghost use Rattle.ng_mtrace.specs.Reads.{IsWithinLimits};
 ghost use Rattle.ng_mtrace.specs.Sections.{logs_of};
 ghost use Rattle.ng_mtrace.specs.Text.{IsWithout};
@@ -35,7 +35,8 @@ impl PartRead {
     /// Nothing was read.
     pub fn new(alloc: Global) -> Result<PartRead, AllocError>
         ensures ready { IfOk result IsReady }
-        ensures faults { IfOk result (λ r. (text : List ℕ) → faults_left r text ≡ first_fault text) }
+        ensures faults { IfOk result (λ r. (text : List ℕ)
+            → faults_left r text ≡ first_fault text) }
         ensures logs { IfOk result (λ r. (text : List ℕ)
             → logs_left r text ≡ (logs_of text).logs) }
     {
@@ -120,9 +121,7 @@ impl PartRead {
         self.number += 1;
         match self.sections.add(kind) {
             Ok(()) => Ok(()),
-            Err(KindFault::TooMany) => Err(LogFault::Limit(self.number)),
-            Err(KindFault::Bad) => Err(LogFault::BadLine(self.number)),
-            Err(KindFault::Host) => Err(LogFault::Host),
+            Err(why) => Err(fault_at(self.number, why)),
         }
     }
 
@@ -175,4 +174,15 @@ fn last_kind(line: &mut Vec<u8>, part: &[u8]) -> Kind
     let kind = read_kind(line.as_slice());
     line.clear();
     kind
+}
+
+/// The fault of a line of this number.
+fn fault_at(line: u64, why: KindFault) -> LogFault
+    ensures { result ≡ fault_at line why }
+{
+    match why {
+        KindFault::TooMany => LogFault::Limit(line),
+        KindFault::Bad => LogFault::BadLine(line),
+        KindFault::Host => LogFault::Host,
+    }
 }

@@ -120,9 +120,7 @@ impl Sections {
         if let Kind::Bad = kind {
             return Err(KindFault::Bad);
         }
-        let line = line_of(self.pending, kind);
-        self.pending = old_of(kind);
-        let Some(line) = line else {
+        let Some(line) = next_line(&mut self.pending, kind) else {
             return Ok(());
         };
         match self.entries.push(line) {
@@ -178,6 +176,19 @@ impl Sections {
     }
 }
 
+/// What a line gives its log behind a `<` line of the pending pointer, or behind none. Its own
+/// pointer is pending then, where it is a `<` line.
+fn next_line(pending: &mut Option<u64>, kind: Kind) -> Option<Line>
+    ensures given { option_to_list result ≡ given pending.old kind }
+    ensures pending { pending.new ≡ old_then kind }
+{
+    let old = pending.take();
+    if let Kind::Old { name } = kind {
+        *pending = Some(name);
+    }
+    line_of(old, kind)
+}
+
 /// What a line gives its log behind a `<` line of this pointer, or behind none.
 fn line_of(old: Option<u64>, kind: Kind) -> Option<Line>
     ensures { option_to_list result ≡ given old kind }
@@ -190,16 +201,6 @@ fn line_of(old: Option<u64>, kind: Kind) -> Option<Line>
             Some(0) => Some(Line::Make { name, size }),
             Some(old) => Some(Line::Move { old, name, size }),
         },
-        _ => None,
-    }
-}
-
-/// The pointer of a `<` line.
-fn old_of(kind: Kind) -> Option<u64>
-    ensures { result ≡ old_then kind }
-{
-    match kind {
-        Kind::Old { name } => Some(name),
         _ => None,
     }
 }

@@ -1,6 +1,5 @@
 use Rattle.std.proofs.Common.{◌≡◌, sym, ap, ◌∙◌, ℕ, List, [], ◌∷◌}
 use Rattle.ng_mtrace.specs.Tokens.{last_tokens}
-use Rattle.ng_mtrace.specs.Kinds.{kind_of, kind_from}
 use Rattle.ng_mtrace.proofs.LineForms.{kind_of-from, one_token, two_tokens}
 use Rattle.ng_mtrace.proofs.kind.read_kind.Goals as goal
 

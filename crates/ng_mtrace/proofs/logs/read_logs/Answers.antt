@@ -1,11 +1,11 @@
-use Rattle.std.proofs.Common.{◌≡◌, ℕ, ◌≤◌, ◌<◌, List, [], ◌++◌, take, drop, length, vec_len, sym, ap, ◌∙◌, arith}
+use Rattle.std.proofs.Common.{◌≡◌, ℕ, List, [], ◌++◌, take, drop, length, vec_len, sym, arith}
 use Rattle.ng_mtrace.specs.PartRead.{logs_left}
 use Rattle.ng_mtrace.specs.Reads.{ReadsLogs}
 use Rattle.ng_mtrace.specs.Streams.{put_back}
 use Rattle.ng_mtrace.specs.declared.log_fault.LogFault.TheVariants.{BadLine, Limit}
 use Rattle.std.proofs.lemmas.Result.{IfOk-weaker}
 use Rattle.ng_mtrace.proofs.StreamLemmas.{put_back-nil, taken-more}
-use Rattle.ng_mtrace.proofs.ReadSteps.{Stands, read-copied, fed_more, reads_logs, meets_fault, bad_line_is_not_host, limit_is_not_host, same_fault}
+use Rattle.ng_mtrace.proofs.ReadSteps.{read-copied, fed_more, reads_logs, meets_fault, bad_line_is_not_host, limit_is_not_host, same_fault}
 use Rattle.ng_mtrace.proofs.logs.read_logs.Goals as goal
 
 pub loop-count-init : goal.loop-count-init
@@ -24,7 +24,7 @@ loop-count-preserved g c =
     let fed : List ℕ = take c.in-Ok-read.count c.deref.result.now in
     let long : length c.read.new.buf ≡ vec_len c.loop-count.piece = omega (arith, c.read.auto.buf, c.as_mut_slice.ensures.len) in
     let read : g.I.Source.left c.loop-count.input ≡ put_back fed (g.I.Source.left c.read.new.self) =
-        read-copied (g.I.Source.left c.loop-count.input) (g.I.Source.left c.read.new.self) c.read.new.buf (drop (length c.read.new.buf) c.loop-count.piece.items) c.deref.result.now c.in-Ok-read.count (vec_len c.loop-count.piece) c.in-Ok-read.ensures.bytes c.in-Ok-read.ensures.within long c.deref.ensures.value in
+    read-copied (g.I.Source.left c.loop-count.input) (g.I.Source.left c.read.new.self) c.read.new.buf (drop (length c.read.new.buf) c.loop-count.piece.items) c.deref.result.now c.in-Ok-read.count (vec_len c.loop-count.piece) c.in-Ok-read.ensures.bytes c.in-Ok-read.ensures.within long c.deref.ensures.value in
     record {
       ready = c.in_default-feed.ensures.ready;
       bytes = whole.bytes ++ fed;
@@ -39,8 +39,8 @@ returns-then-count-eq0-clause-ok g c =
     let whole = c.loop-count.invariant in
     let last : g.I.Source.left c.loop-count.input ≡ put_back [] (g.I.Source.left c.read.new.self) = rw c.if-count-eq0.true at c.in-Ok-read.ensures.bytes in
     IfOk-weaker c.finish.result (λ logs. logs.logs ≡ logs_left c.loop-count.part []) (ReadsLogs (g.I.Source.left c.args.input.now) (g.I.Source.left c.read.new.self))
-        (λ logs are. reads_logs (g.I.Source.left c.args.input.now) (g.I.Source.left c.loop-count.input) (g.I.Source.left c.read.new.self) c.loop-count.part whole.bytes logs whole.taken last (c.in-Ok-read.ensures.end c.if-count-eq0.true) whole.stands c.finish.ensures.faultless are)
-        c.finish.ensures.ok
+    (λ logs are. reads_logs (g.I.Source.left c.args.input.now) (g.I.Source.left c.loop-count.input) (g.I.Source.left c.read.new.self) c.loop-count.part whole.bytes logs whole.taken last (c.in-Ok-read.ensures.end c.if-count-eq0.true) whole.stands c.finish.ensures.faultless are)
+    c.finish.ensures.ok
 
 pub returns-then-count-eq0-clause-no_log : goal.returns-then-count-eq0-clause-no_log
 returns-then-count-eq0-clause-no_log g c = λ same.
@@ -55,7 +55,7 @@ returns-in-Err-clause-bad_line g c = λ line same.
     let fed : List ℕ = take c.in-Ok-read.count c.deref.result.now in
     let long : length c.read.new.buf ≡ vec_len c.loop-count.piece = omega (arith, c.read.auto.buf, c.as_mut_slice.ensures.len) in
     let read : g.I.Source.left c.loop-count.input ≡ put_back fed (g.I.Source.left c.read.new.self) =
-        read-copied (g.I.Source.left c.loop-count.input) (g.I.Source.left c.read.new.self) c.read.new.buf (drop (length c.read.new.buf) c.loop-count.piece.items) c.deref.result.now c.in-Ok-read.count (vec_len c.loop-count.piece) c.in-Ok-read.ensures.bytes c.in-Ok-read.ensures.within long c.deref.ensures.value in
+    read-copied (g.I.Source.left c.loop-count.input) (g.I.Source.left c.read.new.self) c.read.new.buf (drop (length c.read.new.buf) c.loop-count.piece.items) c.deref.result.now c.in-Ok-read.count (vec_len c.loop-count.piece) c.in-Ok-read.ensures.bytes c.in-Ok-read.ensures.within long c.deref.ensures.value in
     meets_fault (g.I.Source.left c.args.input.now) (g.I.Source.left c.loop-count.input) (g.I.Source.left c.read.new.self) c.loop-count.part whole.bytes fed c.in-Err.fault (BadLine line) whole.taken read whole.stands (same_fault c.in-Err.fault (BadLine line) same) (bad_line_is_not_host line) c.in-Err.ensures.err
 
 pub returns-in-Err-clause-limit : goal.returns-in-Err-clause-limit
@@ -64,5 +64,5 @@ returns-in-Err-clause-limit g c = λ line same.
     let fed : List ℕ = take c.in-Ok-read.count c.deref.result.now in
     let long : length c.read.new.buf ≡ vec_len c.loop-count.piece = omega (arith, c.read.auto.buf, c.as_mut_slice.ensures.len) in
     let read : g.I.Source.left c.loop-count.input ≡ put_back fed (g.I.Source.left c.read.new.self) =
-        read-copied (g.I.Source.left c.loop-count.input) (g.I.Source.left c.read.new.self) c.read.new.buf (drop (length c.read.new.buf) c.loop-count.piece.items) c.deref.result.now c.in-Ok-read.count (vec_len c.loop-count.piece) c.in-Ok-read.ensures.bytes c.in-Ok-read.ensures.within long c.deref.ensures.value in
+    read-copied (g.I.Source.left c.loop-count.input) (g.I.Source.left c.read.new.self) c.read.new.buf (drop (length c.read.new.buf) c.loop-count.piece.items) c.deref.result.now c.in-Ok-read.count (vec_len c.loop-count.piece) c.in-Ok-read.ensures.bytes c.in-Ok-read.ensures.within long c.deref.ensures.value in
     meets_fault (g.I.Source.left c.args.input.now) (g.I.Source.left c.loop-count.input) (g.I.Source.left c.read.new.self) c.loop-count.part whole.bytes fed c.in-Err.fault (Limit line) whole.taken read whole.stands (same_fault c.in-Err.fault (Limit line) same) (limit_is_not_host line) c.in-Err.ensures.err

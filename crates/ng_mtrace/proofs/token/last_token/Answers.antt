@@ -1,5 +1,4 @@
-use Rattle.std.proofs.Common.{◌≡◌, ◌⊎◌, ◌<◌, ◌≤◌, ◌-◌, true, get_or, arith, sym, ◌∙◌, inl, inr}
-use Rattle.ng_mtrace.specs.Tokens.{is_blank, tokens_of, last_tokens}
+use Rattle.std.proofs.Common.{arith, sym, ◌∙◌, inl, inr}
 use Rattle.ng_mtrace.proofs.TokenLemmas.{same_tokens, last_token_is, no_token}
 use Rattle.ng_mtrace.proofs.token.last_token.Goals as goal
 use Rattle.ng_mtrace.proofs.token.last_token.Goals.{then-loop-start-test+else-not-is_blank, else-loop-start-test}

@@ -1,13 +1,13 @@
-use Rattle.std.proofs.Common.{◌≡◌, ℕ, ◌+◌, List, [], ◌∷◌, ◌++◌, true, false, map, None, Some, Err, ap, ◌∙◌, sym, refl}
+use Rattle.std.proofs.Common.{◌≡◌, ℕ, ◌+◌, List, ◌∷◌, ◌++◌, true, false, map, None, Some, ap, ◌∙◌, sym, refl}
 use Rattle.ng_mtrace.specs.Faults.{is_beyond, open_then}
 use Rattle.ng_mtrace.specs.Kinds.{kind_of, is_start}
 use Rattle.ng_mtrace.specs.OpenSections.{logs_after, count_of, kind_fault, one_if}
 use Rattle.ng_mtrace.specs.PartRead.{faults_from, faults_left, logs_left}
 use Rattle.ng_mtrace.specs.Sections.{whole_of}
 use Rattle.ng_mtrace.specs.Text.{parts_of}
-use Rattle.ng_mtrace.specs.declared.sections.KindFault.TheVariants.{TooMany, Bad}
+use Rattle.ng_mtrace.specs.declared.sections.KindFault.TheVariants.{Host}
 use Rattle.ng_mtrace.proofs.LineParts.{parts_of-joined, beyond_fed, fed_kinds}
-use Rattle.ng_mtrace.proofs.LineFaults.{fine_fed, faulty_fed, kind_fault-is, many_is_not_host, bad_is_not_host}
+use Rattle.ng_mtrace.proofs.LineFaults.{fine_fed, faulty_fed, other_cause}
 use Rattle.ng_mtrace.proofs.part_read.PartRead.end_line.Goals as goal
 
 pub returns-then-is_beyond-clause-err : goal.returns-then-is_beyond-clause-err
@@ -46,26 +46,16 @@ returns-in-Ok-clause-logs c = λ rest.
     ∙ ap (logs_after r.sections) (sym (fed_kinds line fresh rest c.last_kind-kind.ensures.empty))
     ∙ ap (λ parts. logs_after r.sections (map kind_of (whole_of parts))) (sym (parts_of-joined r.line.items part rest c.requires.ready.unfed c.requires.unfed))
 
-pub returns-in-Err-TooMany-clause-err : goal.returns-in-Err-TooMany-clause-err
+pub returns-in-Err-clause-err : goal.returns-in-Err-clause-err
 unfolding faults_left
-returns-in-Err-TooMany-clause-err c = λ real rest.
+returns-in-Err-clause-err c = λ real rest.
     let r = c.args.self.now in
     let part : List ℕ = c.args.part.now in
     let line : List ℕ = r.line.items ++ part in
+    let why = c.in-Err.why in
     let within : is_beyond (r.number + 1) line ≡ false = sym c.is_beyond.ensures ∙ c.if-is_beyond.false in
-    let faulty : kind_fault (count_of r.sections) r.sections.active (kind_of line) ≡ Some TooMany =
-        kind_fault-is (count_of r.sections) r.sections.active c.last_kind-kind.result (kind_of line) c.in-Err-TooMany.field-0 TooMany c.last_kind-kind.ensures.kind c.in-Err-TooMany.field-0-is many_is_not_host c.in-Err-TooMany.ensures.err in
+    let other : why ≡ Host → ⊥ = other_cause (r.number + 1) why (λ host. real (c.fault_at.ensures ∙ host)) in
+    let faulty : kind_fault (count_of r.sections) r.sections.active (kind_of line) ≡ Some why = rw c.last_kind-kind.ensures.kind at (c.in-Err.ensures.err other) in
     ap (faults_from r.number (count_of r.sections) r.sections.active) (parts_of-joined r.line.items part rest c.requires.ready.unfed c.requires.unfed)
-    ∙ faulty_fed r.number (count_of r.sections) r.sections.active line rest TooMany within faulty
-
-pub returns-in-Err-Bad-clause-err : goal.returns-in-Err-Bad-clause-err
-unfolding faults_left
-returns-in-Err-Bad-clause-err c = λ real rest.
-    let r = c.args.self.now in
-    let part : List ℕ = c.args.part.now in
-    let line : List ℕ = r.line.items ++ part in
-    let within : is_beyond (r.number + 1) line ≡ false = sym c.is_beyond.ensures ∙ c.if-is_beyond.false in
-    let faulty : kind_fault (count_of r.sections) r.sections.active (kind_of line) ≡ Some Bad =
-        kind_fault-is (count_of r.sections) r.sections.active c.last_kind-kind.result (kind_of line) c.in-Err-Bad.field-0 Bad c.last_kind-kind.ensures.kind c.in-Err-Bad.field-0-is bad_is_not_host c.in-Err-Bad.ensures.err in
-    ap (faults_from r.number (count_of r.sections) r.sections.active) (parts_of-joined r.line.items part rest c.requires.ready.unfed c.requires.unfed)
-    ∙ faulty_fed r.number (count_of r.sections) r.sections.active line rest Bad within faulty
+    ∙ faulty_fed r.number (count_of r.sections) r.sections.active line rest why within faulty
+    ∙ ap Some (sym c.fault_at.ensures)

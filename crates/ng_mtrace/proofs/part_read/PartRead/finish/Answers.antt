@@ -1,4 +1,4 @@
-use Rattle.std.proofs.Common.{◌≡◌, ◌++◌, [], None, List, length, vec_len, ap, ◌∙◌, sym, arith}
+use Rattle.std.proofs.Common.{◌≡◌, [], None, length, vec_len, ap, ◌∙◌, sym, arith}
 use Rattle.std.proofs.lemmas.Bool.{eqb-true}
 use Rattle.std.proofs.lemmas.List.{nil_from_length}
 use Rattle.ng_mtrace.specs.OpenSections.{count_of, logs_after}

@@ -1,11 +1,10 @@
-use Rattle.std.proofs.Common.{◌≡◌, ℕ, ◌+◌, ◌<◌, ◌==◌, List, ◌++◌, All, true, false, length, map, ap, ◌∙◌, sym, append_assoc}
-use Rattle.std.proofs.lemmas.List.Elements.{All-append}
+use Rattle.std.proofs.Common.{◌≡◌, ℕ, ◌+◌, ◌<◌, List, ◌++◌, true, length, map, ap, ◌∙◌, sym, append_assoc}
 use Rattle.ng_mtrace.specs.Faults.{is_beyond}
 use Rattle.ng_mtrace.specs.Kinds.{kind_of}
 use Rattle.ng_mtrace.specs.OpenSections.{logs_after, count_of}
 use Rattle.ng_mtrace.specs.PartRead.{faults_from, faults_left, logs_left}
 use Rattle.ng_mtrace.specs.Sections.{whole_of}
-use Rattle.ng_mtrace.specs.Text.{parts_of, IsWithout}
+use Rattle.ng_mtrace.specs.Text.{parts_of}
 use Rattle.ng_mtrace.proofs.Digits.{some_if}
 use Rattle.ng_mtrace.proofs.LineParts.{beyond_kept}
 use Rattle.ng_mtrace.proofs.part_read.PartRead.keep.Goals as goal

@@ -1,4 +1,4 @@
-use Rattle.std.proofs.Common.{◌≡◌, ℕ, ◌++◌, [], ap, ◌∙◌, map}
+use Rattle.std.proofs.Common.{[], map}
 use Rattle.ng_mtrace.specs.Faults.{first_fault}
 use Rattle.ng_mtrace.specs.Kinds.{kind_of}
 use Rattle.ng_mtrace.specs.PartRead.{faults_left, logs_left}

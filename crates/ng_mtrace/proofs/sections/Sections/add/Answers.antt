@@ -1,4 +1,3 @@
-use Rattle.std.proofs.Common.{◌≡◌}
 use Rattle.ng_mtrace.specs.OpenSections.{count_of}
 use Rattle.ng_mtrace.proofs.SectionSteps.{passed_at, not_start, still_open, no_fault, same_count}
 use Rattle.ng_mtrace.proofs.sections.Sections.add.Goals as goal

@@ -1,4 +1,4 @@
-use Rattle.std.proofs.Common.{◌≡◌, ◌∙◌}
+use Rattle.std.proofs.Common.{◌∙◌}
 use Rattle.ng_mtrace.proofs.SectionSteps.{begun_from}
 use Rattle.ng_mtrace.proofs.sections.Sections.begin.Goals as goal
 

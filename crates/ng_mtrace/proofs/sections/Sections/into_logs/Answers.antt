@@ -1,4 +1,4 @@
-use Rattle.std.proofs.Common.{◌≡◌, [], ◌∙◌}
+use Rattle.std.proofs.Common.{[], ◌∙◌}
 use Rattle.ng_mtrace.proofs.SectionSteps.{at_end, only_done}
 use Rattle.ng_mtrace.proofs.sections.Sections.into_logs.Goals as goal
 

@@ -1,4 +1,4 @@
-use Rattle.std.proofs.Common.{◌≡◌, refl}
+use Rattle.std.proofs.Common.{refl}
 use Rattle.ng_mtrace.specs.OpenSections.{logs_with}
 use Rattle.ng_mtrace.proofs.sections.Sections.new.Goals as goal
 
