@@ -3,7 +3,7 @@ use Rattle.std.specs.Prelude.{codes, IfOk, IfSome, IfNone, Result, Ok, Err}
 use Rattle.std.proofs.Common.{◌≡◌, ℕ, ◌≤◌, ◌<◌, List, [], ◌∷◌, ◌++◌, length, take, Option, Some, None, refl, sym, ap, ◌∙◌, arith, inl, inr}
 use Rattle.std.proofs.lemmas.List.{take-append-drop, length-take}
 use Rattle.ng_mtrace.specs.Streams.{taken, MoreThan}
-use Rattle.ng_mtrace.specs.Text.{parts_at, parts_of, tokens_of}
+use Rattle.ng_mtrace.specs.Text.{parts_at, parts_of, words_of}
 use Rattle.ng_mtrace.specs.FirstForm.{line_of, line_from, IsFirstForm, ReadsOther}
 use Rattle.ng_mtrace.specs.FirstBody.{IsBody}
 use Rattle.ng_mtrace.specs.declared.log.Line.{Line}
@@ -11,11 +11,11 @@ use Rattle.ng_mtrace.proofs.FirstBodies.{first_of, rest_of}
 
 -- four tokens or more write no line
 pub line_of-many : (text first second third : List ℕ) (after : List (List ℕ)) (behind last : List ℕ)
-    → tokens_of text ≡ first ∷ tokens_of behind → tokens_of behind ≡ second ∷ tokens_of last
-    → tokens_of last ≡ third ∷ after → 0 < length after → None ≡ line_of text
+    → words_of text ≡ first ∷ words_of behind → words_of behind ≡ second ∷ words_of last
+    → words_of last ≡ third ∷ after → 0 < length after → None ≡ line_of text
 line_of-many text first second third [] behind last a b c some = absurd (omega arith)
 line_of-many text first second third (fourth ∷ after) behind last a b c some =
-    let tokens : tokens_of text ≡ first ∷ second ∷ third ∷ fourth ∷ after = rw (← c) (rw (← b) a) in
+    let tokens : words_of text ≡ first ∷ second ∷ third ∷ fourth ∷ after = rw (← c) (rw (← b) a) in
     ap line_from (sym tokens)
 
 -- the mark of the start and a body

@@ -11,7 +11,7 @@ use Rattle.std.proofs.lemmas.List.Sums.{count_by-le-length}
 use Rattle.std.proofs.lemmas.List.{append-nil, append_cancel_right, length-append, length-map}
 use Rattle.std.proofs.lemmas.List.Splits.{length-slice_split}
 use Rattle.ng_mtrace.specs.Streams.{put_back, AtEnd}
-use Rattle.ng_mtrace.specs.Text.{parts_at, parts_of, tokens_of}
+use Rattle.ng_mtrace.specs.Text.{parts_at, parts_of, words_of}
 use Rattle.ng_mtrace.specs.Numbers.{hex_of}
 use Rattle.ng_mtrace.specs.FirstForm.{name_of, line_of, line_from, IsPlain, IsFirstForm, ReadsFirst, ReadsOther}
 use Rattle.ng_mtrace.specs.declared.log.Line.{Line}
@@ -118,7 +118,7 @@ all_plain (text ∷ texts) [] same = absurd cc
 all_plain (text ∷ texts) (line ∷ lines) same =
     let first : line_of text ≡ Some line = cc in
     let rest : map line_of texts ≡ map (λ (l : Line). Some l) lines = cc in
-    All-cons IsPlain line lines (line_plain (tokens_of text) line first) (all_plain texts lines rest)
+    All-cons IsPlain line lines (line_plain (words_of text) line first) (all_plain texts lines rest)
 
 -- the lines of a text in the form are makes and ends, of pointers that aren't 0
 pub form-plain : (text : List ℕ) (lines : List Line) → IsFirstForm text lines → All IsPlain lines

@@ -1,9 +1,9 @@
 -- Bytes taken and added piece by piece.
 use Rattle.std.specs.Prelude.{Option, Some, None}
-use Rattle.std.proofs.Common.{◌≡◌, ℕ, ◌+◌, ◌-◌, List, ◌++◌, length, take, drop, refl, ap, sym, append_assoc, arith}
+use Rattle.std.proofs.Common.{◌≡◌, ℕ, ◌+◌, ◌-◌, List, [], ◌++◌, length, take, drop, refl, ap, sym, ◌∙◌, append_assoc, arith}
 use Rattle.std.proofs.lemmas.List.{take_all, take_at, take-append-drop, drop-drop, length-drop}
 use Rattle.std.proofs.Math.Seq.{take-add}
-use Rattle.ng_mtrace.specs.Streams.{added}
+use Rattle.ng_mtrace.specs.Streams.{added, put_back}
 
 pub added-added : (written : Option (List ℕ)) (a b : List ℕ) → added (added written a) b ≡ added written (a ++ b)
 added-added (Some written) a b = ap Some (append_assoc written a b)
@@ -21,3 +21,16 @@ pub drop-copied : (bytes copied tail : List ℕ) (at count : ℕ) → copied ≡
 drop-copied bytes copied tail at count is len =
     let width : (at + count) - at ≡ count = omega arith in
     rw (take_at copied tail count len, rw width at is) (sym (rw (← drop-drop count at bytes) (take-append-drop count (drop at bytes))))
+
+pub put_back-nil : (left : Option (List ℕ)) → left ≡ put_back [] left
+put_back-nil (Some left) = refl
+put_back-nil None = refl
+
+pub put_back-put_back : (left : Option (List ℕ)) (a b : List ℕ) → put_back a (put_back b left) ≡ put_back (a ++ b) left
+put_back-put_back (Some left) a b = ap Some (sym (append_assoc a b left))
+put_back-put_back None a b = refl
+
+-- bytes taken behind those taken before
+pub taken-more : (before during after : Option (List ℕ)) (a b : List ℕ) → before ≡ put_back a during → during ≡ put_back b after
+    → before ≡ put_back (a ++ b) after
+taken-more before during after a b first second = first ∙ ap (put_back a) second ∙ put_back-put_back after a b

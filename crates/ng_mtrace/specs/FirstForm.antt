@@ -4,7 +4,7 @@ use Rattle.std.specs.Option.{option_map}
 use Rattle.std.specs.Str.{bytes_eq}
 use Rattle.ng_mtrace.specs.Numbers.{hex_of}
 use Rattle.ng_mtrace.specs.Streams.{put_back, AtEnd}
-use Rattle.ng_mtrace.specs.Text.{parts_of, tokens_of}
+use Rattle.ng_mtrace.specs.Text.{parts_of, words_of}
 use Rattle.ng_mtrace.specs.declared.log.Line.{Line}
 use Rattle.ng_mtrace.specs.declared.log.Line.TheVariants.{Make, End, Move}
 use Rattle.ng_mtrace.specs.declared.log.Log.{Log}
@@ -40,7 +40,7 @@ line_from tokens = None
 
 -- the line that a text writes
 abbrev pub line_of : List ℕ → Option Line
-line_of text = line_from (tokens_of text)
+line_of text = line_from (words_of text)
 
 -- a text in the first form: at most 1,048,576 bytes, each line with its line feed, and these lines
 -- between the two marks

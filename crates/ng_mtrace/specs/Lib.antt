@@ -1,6 +1,13 @@
 pub mod Streams
 pub mod InMemory
 pub mod Text
+pub mod Tokens
 pub mod Numbers
+pub mod Kinds
+pub mod Sections
+pub mod Faults
+pub mod Reads
+pub mod OpenSections
+pub mod PartRead
 pub mod FirstForm
 pub mod FirstBody

@@ -1,7 +1,8 @@
--- The hexadecimal numbers of a log.
-use Rattle.std.specs.Prelude.{ℕ, Bool, List, [], ◌∷◌, ◌==◌, length, Option, Some, None, ◌&&◌, nat_le, if◌then◌else◌}
+-- The numbers of a log: hexadecimal ones, pointers and sizes.
+use Rattle.std.specs.Prelude.{ℕ, Bool, List, [], ◌∷◌, ◌==◌, length, Option, Some, None, ◌&&◌, nat_le, if◌then◌else◌, codes}
 use Rattle.std.specs.List.{list_all}
 use Rattle.std.specs.Char.{is_digit}
+use Rattle.std.specs.Str.{bytes_eq}
 use Rattle.std.specs.Str.Parse.{digits_value}
 
 -- 1 to 16 hexadecimal digits, of either case
@@ -18,3 +19,11 @@ abbrev pub hex_of : List ℕ → Option ℕ
 hex_of [] = None
 hex_of (nought ∷ []) = None
 hex_of (nought ∷ x ∷ digits) = if (nought == 48) && (x == 120) then number_of digits else None
+
+-- a pointer: `(nil)`, which is 0, or a hexadecimal number
+abbrev pub ptr_of : List ℕ → Option ℕ
+ptr_of token = if bytes_eq token (codes "(nil)") then Some 0 else hex_of token
+
+-- a size: `0`, or a hexadecimal number
+abbrev pub size_of : List ℕ → Option ℕ
+size_of token = if bytes_eq token (codes "0") then Some 0 else hex_of token

@@ -1,5 +1,5 @@
 -- Texts and their parts.
-use Rattle.std.specs.Prelude.{ℕ, List, ◌==◌}
+use Rattle.std.specs.Prelude.{◌≡◌, ℕ, List, All, false, ◌==◌}
 use Rattle.std.specs.List.{slice_split}
 
 -- the parts of a text round each byte of this value
@@ -10,6 +10,10 @@ parts_at cut text = slice_split (λ byte. byte == cut) text
 abbrev pub parts_of : List ℕ → List (List ℕ)
 parts_of text = parts_at 10 text
 
--- the tokens of a line, where one space stands between two of them
-abbrev pub tokens_of : List ℕ → List (List ℕ)
-tokens_of line = parts_at 32 line
+-- no byte has this value
+abbrev pub IsWithout : ℕ → List ℕ → Type 0
+IsWithout cut text = All (λ byte. (byte == cut) ≡ false) text
+
+-- the words of a line of the first form, where one space stands between two of them
+abbrev pub words_of : List ℕ → List (List ℕ)
+words_of line = parts_at 32 line

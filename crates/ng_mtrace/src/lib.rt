@@ -6,12 +6,18 @@ mod bytes_out;
 mod first;
 mod first_form;
 mod input;
+mod kind;
 mod log;
+mod log_fault;
+mod logs;
 mod number;
 mod output;
+mod part_read;
 mod reading;
+mod sections;
 mod stream;
 mod text;
+mod token;
 mod writing;
 
 pub use bytes_in::BytesIn;
@@ -19,11 +25,15 @@ pub use bytes_out::BytesOut;
 pub use first::{FirstFault, read_first};
 pub use input::Input;
 pub use log::{Line, Log, Logs};
+pub use log_fault::LogFault;
+pub use logs::read_logs;
 pub use ng_terms::Items;
 pub use output::Output;
 pub use reading::{ReadFault, read_whole};
 pub use stream::{Failed, Sink, Source};
 pub use writing::write_all;
 
+#[cfg(test)]
+mod log_tests;
 #[cfg(test)]
 mod tests;

@@ -1,6 +1,8 @@
 ghost use Rattle.std.specs.Prelude.{◌≡◌, ◌<◌, ◌≤◌, IfSome, MatchOption};
 ghost use Rattle.std.specs.Char.{digit_value};
-ghost use Rattle.ng_mtrace.specs.Numbers.{number_of, hex_of};
+ghost use Rattle.ng_mtrace.specs.Numbers.{number_of, hex_of, ptr_of, size_of};
+
+use crate::text::is_word;
 
 /// The value of a hexadecimal digit of either case.
 fn digit(byte: u8) -> Option<u8>
@@ -40,4 +42,24 @@ pub fn hex(token: &[u8]) -> Option<u64>
         [b'0', b'x', digits @ ..] => number(digits),
         _ => None,
     }
+}
+
+/// The pointer that a token writes: `(nil)`, which is 0, or a hexadecimal number.
+pub fn ptr(token: &[u8]) -> Option<u64>
+    ensures { result ≡ ptr_of token.now }
+{
+    if is_word(token, b"(nil)") {
+        return Some(0);
+    }
+    hex(token)
+}
+
+/// The size that a token writes: `0`, or a hexadecimal number.
+pub fn size(token: &[u8]) -> Option<u64>
+    ensures { result ≡ size_of token.now }
+{
+    if is_word(token, b"0") {
+        return Some(0);
+    }
+    hex(token)
 }

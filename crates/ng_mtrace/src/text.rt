@@ -1,6 +1,6 @@
-ghost use Rattle.std.specs.Prelude.{◌≡◌, ◌<◌, ◌∷◌, [], length, IfSome, IfNone, ◌==◌, ◌↔◌, position, IsTrue};
+ghost use Rattle.std.specs.Prelude.{◌≡◌, ◌<◌, ◌∷◌, [], ◌++◌, length, IfSome, IfNone, ◌==◌, ◌↔◌, position, IsTrue};
 ghost use Rattle.std.specs.Str.{bytes_eq};
-ghost use Rattle.ng_mtrace.specs.Text.{parts_at};
+ghost use Rattle.ng_mtrace.specs.Text.{parts_at, IsWithout};
 
 /// What stands before the first byte of this value, and what stands behind it.
 pub fn cut_at(text: &[u8], cut: u8) -> Option<(&[u8], &[u8])>
@@ -8,6 +8,11 @@ pub fn cut_at(text: &[u8], cut: u8) -> Option<(&[u8], &[u8])>
     ensures some { IfSome result (λ (before, behind).
         parts_at cut text.now ≡ before.now ∷ parts_at cut behind.now) }
     ensures shorter { IfSome result (λ (before, behind). length behind.now < length text.now) }
+
+    ensures absent { IfNone result (IsWithout cut text.now) }
+    ensures first { IfSome result (λ (before, behind). IsWithout cut before.now) }
+    ensures whole { IfSome result (λ (before, behind).
+        text.now ≡ before.now ++ cut ∷ behind.now) }
 {
     let Some(at) = place_of(text, cut) else {
         return None;
