@@ -1,3 +1,4 @@
+pub mod EndLemmas
 pub mod FirstLemmas
 pub mod FirstSound
 pub mod FitLemmas
