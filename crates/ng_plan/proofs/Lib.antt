@@ -1,3 +1,4 @@
+pub mod ApartLemmas
 pub mod EndLemmas
 pub mod FirstLemmas
 pub mod FirstSound
