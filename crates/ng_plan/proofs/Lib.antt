@@ -6,6 +6,7 @@ pub mod FitLemmas
 pub mod KnownLemmas
 pub mod LogLemmas
 pub mod MakerLemmas
+pub mod NumberLemmas
 pub mod OpLemmas
 pub mod OwnLemmas
 pub mod QueueLemmas
