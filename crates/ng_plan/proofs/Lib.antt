@@ -9,6 +9,7 @@ pub mod MakerLemmas
 pub mod NumberLemmas
 pub mod OpLemmas
 pub mod OwnLemmas
+pub mod PlaceLemmas
 pub mod QueueLemmas
 pub mod RoundLemmas
 pub mod Rows
