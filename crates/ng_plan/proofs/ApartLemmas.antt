@@ -1,5 +1,5 @@
 -- Posted blocks and hand-offs that have no place twice.
-use Rattle.std.proofs.Common.{◌≡◌, ◌≢◌, ℕ, ◌+◌, ◌<◌, List, [], ◌∷◌, ◌++◌, length, get_or, Option, Some, None, eqb, refl, sym, ap, ◌∙◌, subst, arith, ⊎_elim, append-nil}
+use Rattle.std.proofs.Common.{◌≡◌, ◌≢◌, ℕ, ◌<◌, List, [], ◌∷◌, ◌++◌, get_or, Option, Some, None, eqb, sym, ap, subst, arith, ⊎_elim, append-nil}
 use Rattle.std.specs.Prelude.{All}
 use Rattle.std.proofs.lemmas.Bool.{cases_Bool}
 use Rattle.std.proofs.lemmas.List.Elements.{All-append, All-cons, All-head, All-nil, All-tail, All-weaker}
@@ -76,8 +76,8 @@ first_apart name [] block apart found = absurd (none_block block found)
 first_apart name (first ∷ posted) block apart found = ⊎_elim
     (λ yes. rw yes (subst (λ (b : Posted). All (λ (c : Posted). b.maker ≢ c.maker) posted) (same_block first block (rw yes at found)) apart.0))
     (λ other. rw other (All-cons (λ (b : Posted). block.maker ≢ b.maker) first (without name posted)
-        (λ same. earliest_all (λ (b : Posted). first.maker ≢ b.maker) name posted block apart.0 (rw other at found) (sym same))
-        (first_apart name posted block apart.1 (rw other at found))))
+    (λ same. earliest_all (λ (b : Posted). first.maker ≢ b.maker) name posted block apart.0 (rw other at found) (sym same))
+    (first_apart name posted block apart.1 (rw other at found))))
     (cases_Bool (eqb first.name name))
 
 -- the hand-off of the earliest block of a name is apart from the others

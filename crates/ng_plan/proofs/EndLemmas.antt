@@ -1,7 +1,7 @@
 -- All turns come to an end with all ops done.
 use Rattle.std.proofs.Common.{◌≡◌, ℕ, zero, suc, ◌+◌, ◌<◌, ◌≤◌, ◌⊎◌, Bool, true, false, List, [], ◌∷◌, ◌++◌, length, get_or, replicate, set, Option, Some, None, cond, eqb, refl, sym, ap, ◌∙◌, subst, arith, ⊎_elim, inl, inr, length-append, length-set, add-zero}
 use Rattle.std.specs.Prelude.{slice_get, sum, sum_by}
-use Rattle.std.proofs.lemmas.Bool.{cases_Bool, cases_eq, cases_lt, false≢true}
+use Rattle.std.proofs.lemmas.Bool.{cases_eq, cases_lt, false≢true}
 use Rattle.std.proofs.lemmas.List.{length-replicate}
 use Rattle.std.proofs.lemmas.List.Sums.{sum_by-cons, sum_by-set}
 use Rattle.std.proofs.lemmas.Option.{slice_get-get_or}
@@ -142,9 +142,9 @@ rounds_go zero logs turns counts = inr (counts, omega arith)
 rounds_go (suc n) logs turns counts = ⊎_elim
     (λ none. inl (subst (NoneLeft logs) (sym (rounds_stay n logs (go_on logs turns) (none_stays logs (go_on logs turns) none))) none))
     (λ went. ⊎_elim
-        (λ none. inl none)
-        (λ more. inr (more.0, omega (arith, went.more, more.1)))
-        (rounds_go n logs (go_on logs turns) went.counts))
+    (λ none. inl none)
+    (λ more. inr (more.0, omega (arith, went.more, more.1)))
+    (rounds_go n logs (go_on logs turns) went.counts))
     (goes logs turns counts)
 
 sums_le : (done : List ℕ) (logs : List (List Step)) → length done ≡ length logs → ((log : ℕ) → log < length logs → get_or done log 0 ≤ length (get_or logs log [])) → sum done ≤ sum_by length logs

@@ -10,6 +10,7 @@ pub mod NumberLemmas
 pub mod OpLemmas
 pub mod OwnLemmas
 pub mod PlaceLemmas
+pub mod PlanSound
 pub mod QueueLemmas
 pub mod RoundLemmas
 pub mod Rows

@@ -1,6 +1,6 @@
 -- The numbers of places that are apart.
-use Rattle.std.proofs.Common.{◌≡◌, ◌≢◌, ℕ, zero, suc, ◌+◌, ◌-◌, ◌<◌, ◌≤◌, Bool, true, false, List, [], ◌∷◌, length, map, get_or, Option, Some, None, cond, eqb, refl, sym, ap, ◌∙◌, subst, arith, ⊎_elim}
-use Rattle.std.specs.Prelude.{All, ◌&&◌}
+use Rattle.std.proofs.Common.{◌≡◌, ℕ, zero, suc, ◌+◌, ◌-◌, ◌<◌, ◌≤◌, Bool, true, false, List, [], ◌∷◌, length, map, get_or, Some, None, eqb, refl, ap, ◌∙◌, arith, ⊎_elim}
+use Rattle.std.specs.Prelude.{◌&&◌}
 use Rattle.std.specs.List.{position_from}
 use Rattle.std.proofs.lemmas.Bool.{cases_Bool, eqb-true, false≢true}
 use Rattle.ng_plan.specs.declared.step.Place.{Place}
@@ -57,11 +57,11 @@ pub number_is : (place : Place) (places : List Place) (first number : ℕ) → p
 number_is place [] first number is = absurd (none_some number is)
 number_is place (p ∷ places) first number is = ⊎_elim
     (λ yes.
-        let same : first ≡ number = some_same first number (rw yes at is) in
-        let at : number - first ≡ 0 = omega arith in
-        record { least = omega arith; within = omega arith; is = rw at (place_is place p yes) })
+    let same : first ≡ number = some_same first number (rw yes at is) in
+    let at : number - first ≡ 0 = omega arith in
+    record { least = omega arith; within = omega arith; is = rw at (place_is place p yes) })
     (λ other.
-        let later : IsNumber place places (first + 1) number = number_is place places (first + 1) number (rw other at is) in
-        let at : number - first ≡ suc (number - (first + 1)) = omega (arith, later.least) in
-        record { least = omega (arith, later.least); within = omega (arith, later.within); is = rw at later.is })
+    let later : IsNumber place places (first + 1) number = number_is place places (first + 1) number (rw other at is) in
+    let at : number - first ≡ suc (number - (first + 1)) = omega (arith, later.least) in
+    record { least = omega (arith, later.least); within = omega (arith, later.within); is = rw at later.is })
     (cases_Bool (is_place place p))

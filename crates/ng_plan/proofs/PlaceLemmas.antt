@@ -1,13 +1,10 @@
 -- The ops of a plan by their places: what they hand, claim and own.
-use Rattle.std.proofs.Common.{◌≡◌, ℕ, zero, suc, ◌+◌, ◌-◌, ◌<◌, ◌≤◌, Bool, true, false, List, [], ◌∷◌, ◌++◌, length, take, drop, map, get_or, Option, Some, None, cond, eqb, refl, sym, ap, ◌∙◌, subst, arith, ⊎_elim, add-zero, zero-add, append_assoc, append-nil}
+use Rattle.std.proofs.Common.{◌≡◌, ℕ, zero, suc, ◌+◌, ◌<◌, ◌≤◌, Bool, true, false, List, [], ◌∷◌, ◌++◌, length, take, drop, get_or, Option, Some, None, cond, refl, sym, ap, ◌∙◌, subst, arith, add-zero, append_assoc, append-nil}
 use Rattle.std.specs.Prelude.{is_some}
 use Rattle.std.specs.Option.{option_and_then}
-use Rattle.std.proofs.lemmas.Bool.{cases_Bool, false≢true}
-use Rattle.std.proofs.lemmas.List.{drop_more, get_or-map}
+use Rattle.std.proofs.lemmas.List.{drop_more}
 use Rattle.ng_mtrace.specs.declared.log.Line.{Line}
 use Rattle.ng_mtrace.specs.declared.log.Line.TheVariants as line
-use Rattle.ng_terms.specs.declared.plan.Op.{Op}
-use Rattle.ng_terms.specs.declared.plan.Origin.{Origin}
 use Rattle.ng_terms.specs.declared.plan.Origin.TheVariants.{Own, Claim, Skip}
 use Rattle.ng_terms.specs.Calls.{handed_as, origin_of}
 use Rattle.ng_plan.specs.declared.step.Step.{Step}
@@ -15,7 +12,7 @@ use Rattle.ng_plan.specs.Mentions.{claimed, ended, ends_next, handed, is_name, m
 use Rattle.ng_plan.specs.Plans.{op_of, ops_from, ops_of, origin}
 use Rattle.ng_plan.specs.Steps.{step_of, steps_behind}
 use Rattle.ng_plan.specs.Turns.{Turns}
-use Rattle.ng_plan.proofs.MakerLemmas.{line_at, name_is}
+use Rattle.ng_plan.proofs.MakerLemmas.{line_at}
 use Rattle.ng_plan.proofs.TableLemmas.{eqb-same}
 
 pub length-from : (turns : Turns) (log : ℕ) (logs : List (List Line)) → length (ops_from turns log logs) ≡ length logs

@@ -1,5 +1,5 @@
 -- What a replay needs of a plan: each block has one maker and at most one taker, and is made first.
-use Rattle.std.specs.Prelude.{ℕ, ◌≡◌, ◌+◌, ◌-◌, ◌<◌, ◌≤◌, List, [], All, length, take, Option, Some, None, slice_index, slice_index_or}
+use Rattle.std.specs.Prelude.{ℕ, ◌≡◌, ◌-◌, ◌<◌, ◌≤◌, List, [], All, length, take, Option, Some, None, slice_index, slice_index_or}
 use Rattle.ng_terms.specs.declared.plan.Op.{Op}
 use Rattle.ng_terms.specs.declared.plan.Op.TheVariants.{Make, Free, Move}
 use Rattle.ng_terms.specs.declared.plan.Origin.TheVariants.{Own, Claim}
