@@ -1,11 +1,16 @@
+pub mod ApartLemmas
+pub mod EndLemmas
 pub mod FirstLemmas
 pub mod FirstSound
 pub mod FitLemmas
 pub mod KnownLemmas
 pub mod LogLemmas
 pub mod MakerLemmas
+pub mod NumberLemmas
 pub mod OpLemmas
 pub mod OwnLemmas
+pub mod PlaceLemmas
+pub mod PlanSound
 pub mod QueueLemmas
 pub mod RoundLemmas
 pub mod Rows

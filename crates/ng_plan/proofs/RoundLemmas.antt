@@ -28,7 +28,7 @@ named_at names (steps ∷ logs) zero = refl
 named_at names (steps ∷ logs) (suc i) = named_at names logs i
 
 -- no op is left from this log on
-NoneFrom : Turns → ℕ → List (List Step) → ℕ → Type 0
+unfoldable pub NoneFrom : Turns → ℕ → List (List Step) → ℕ → Type 0
 NoneFrom turns log logs upto = (i : ℕ) → i < upto → next_step turns (log + i) (get_or logs i []) ≡ None
 
 later : (turns : Turns) (log : ℕ) (steps : List Step) (logs : List (List Step)) (upto : ℕ) → NoneFrom turns log (steps ∷ logs) (suc upto) → NoneFrom turns (log + 1) logs upto
@@ -41,11 +41,11 @@ here : (turns : Turns) (log : ℕ) (steps : List Step) (logs : List (List Step))
 unfolding NoneFrom
 here turns log steps logs upto some none = ap (λ (n : ℕ). next_step turns n steps) (sym (add-zero log)) ∙ none 0 some
 
-round_none : (logs : List (List Step)) (log : ℕ) (turns : Turns) → NoneFrom turns log logs (length logs) → round_from log logs turns ≡ turns
+pub round_none : (logs : List (List Step)) (log : ℕ) (turns : Turns) → NoneFrom turns log logs (length logs) → round_from log logs turns ≡ turns
 round_none [] log turns none = refl
 round_none (steps ∷ logs) log turns none = rw (here turns log steps logs (suc (length logs)) (omega arith) none) (round_none logs (log + 1) turns (later turns log steps logs (length logs) none))
 
-skip_none : (logs : List (List Step)) (log : ℕ) (turns : Turns) → NoneFrom turns log logs (length logs) → skip_from log logs turns ≡ turns
+pub skip_none : (logs : List (List Step)) (log : ℕ) (turns : Turns) → NoneFrom turns log logs (length logs) → skip_from log logs turns ≡ turns
 skip_none [] log turns none = refl
 skip_none (steps ∷ logs) log turns none = rw (here turns log steps logs (suc (length logs)) (omega arith) none) (skip_none logs (log + 1) turns (later turns log steps logs (length logs) none))
 

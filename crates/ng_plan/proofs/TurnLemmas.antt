@@ -1,23 +1,18 @@
 -- All turns keep to the steps.
 use Rattle.std.proofs.Common.{◌≡◌, ◌≢◌, ℕ, zero, suc, ◌+◌, ◌<◌, ◌≤◌, Bool, true, false, List, [], ◌∷◌, ◌++◌, length, take, get_or, set, replicate, Option, Some, None, cond, eqb, refl, sym, ap, ◌∙◌, subst, arith, ⊎_elim, add-zero, zero-add, length-set, length-append}
 use Rattle.std.specs.Prelude.{All, sum_by}
-use Rattle.std.proofs.lemmas.Bool.{cases_Bool, cases_eq}
+use Rattle.std.proofs.lemmas.Bool.{cases_eq}
 use Rattle.std.proofs.lemmas.List.{get_or-set_same, get_or-set_other, get_or-replicate, take-append-le, take_all, length-replicate}
-use Rattle.std.proofs.lemmas.List.Elements.{All-append, All-cons, All-nil, All-weaker, All-head, All-tail}
+use Rattle.std.proofs.lemmas.List.Elements.{All-append, All-cons, All-nil, All-weaker}
 use Rattle.std.proofs.lemmas.List.Sums.{sum_by_push}
 use Rattle.std.proofs.lemmas.Option.{get_or_from_slice_get, slice_get_within}
 use Rattle.ng_plan.specs.declared.step.Place.{Place}
 use Rattle.ng_plan.specs.declared.step.Step.{Step}
-use Rattle.ng_plan.specs.SoundTurns.{step_at, turns_had, IsDone, IsPost, IsHandOff, AreSound}
+use Rattle.ng_plan.specs.SoundTurns.{step_at, turns_had, IsDone, IsPost, IsHandOff, AreApart, AreSound}
 use Rattle.ng_plan.specs.Turns.{HandOff, Posted, Turns, earliest, finish, go_on, hand_off, next_place, next_step, posted_by, round, round_from, rounds, skip, skip_from, skip_with, start, take_block, try_claim, turn, turn_with, turns_of, without}
+use Rattle.ng_plan.proofs.ApartLemmas.{earliest_all, handed_apart, posted_apart, without_all}
 use Rattle.ng_plan.proofs.ScheduleLemmas.{earliest_named}
 use Rattle.ng_plan.proofs.TableLemmas.{eqb-same, eqb-other}
-
-none_block : (block : Posted) → None ≡ Some block → ⊥
-none_block block same = cc
-
-same_block : (first block : Posted) → Some first ≡ Some block → first ≡ block
-same_block first block same = cc
 
 -- one more turn
 had_here : (log : ℕ) (order : List ℕ) → turns_had log (order ++ log ∷ []) ≡ turns_had log order + 1
@@ -61,21 +56,6 @@ still_handed logs done order log handoff is =
       untaken = subst (λ (ls : List ℕ). turns_had handoff.taker.log ls ≤ handoff.taker.op) (sym front) is.untaken;
     }
 
--- what is left of the posted blocks
-without_all : (P : Posted → Type 0) (name : ℕ) (blocks : List Posted) → All P blocks → All P (without name blocks)
-without_all P name [] all = all
-without_all P name (block ∷ blocks) all = ⊎_elim
-    (λ yes. rw yes (All-tail P block blocks all))
-    (λ other. rw other (All-cons P block (without name blocks) (All-head P block blocks all) (without_all P name blocks (All-tail P block blocks all))))
-    (cases_Bool (eqb block.name name))
-
-earliest_all : (P : Posted → Type 0) (name : ℕ) (blocks : List Posted) (block : Posted) → All P blocks → earliest name blocks ≡ Some block → P block
-earliest_all P name [] block all is = absurd (none_block block is)
-earliest_all P name (first ∷ blocks) block all is = ⊎_elim
-    (λ yes. subst P (same_block first block (rw yes at is)) (All-head P first blocks all))
-    (λ other. earliest_all P name blocks block (All-tail P first blocks all) (rw other at is))
-    (cases_Bool (eqb first.name name))
-
 -- what the op of this turn posts
 posts_own : (logs : List (List Step)) (done : List ℕ) (log : ℕ) (posts : Option ℕ) → log < length done → (step_at logs (record { log = log; op = get_or done log 0 })).posts ≡ posts → All (IsPost logs (set done log (get_or done log 0 + 1))) (posted_by (record { log = log; op = get_or done log 0 }) posts)
 posts_own logs done log None within is = All-nil (IsPost logs (set done log (get_or done log 0 + 1)))
@@ -83,8 +63,8 @@ posts_own logs done log (Some name) within is =
     All-cons (IsPost logs (set done log (get_or done log 0 + 1))) (record { name = name; maker = record { log = log; op = get_or done log 0 } }) [] (record { maker = now_done done log within; posts = is }) (All-nil (IsPost logs (set done log (get_or done log 0 + 1))))
 
 -- the next op of a log is done, with these blocks left and these hand-offs
-finished : (logs : List (List Step)) (turns : Turns) (log : ℕ) (step : Step) → AreSound logs turns → log < length logs → next_step turns log (get_or logs log []) ≡ Some step → (posted : List Posted) (handoffs : List HandOff) → All (IsPost logs turns.done) posted → All (IsHandOff logs (set turns.done log (get_or turns.done log 0 + 1)) (turns.order ++ log ∷ [])) handoffs → AreSound logs (finish (record turns { posted = posted; handoffs = handoffs }) log step.posts)
-finished logs turns log step sound within next posted handoffs are_posted are_handed =
+finished : (logs : List (List Step)) (turns : Turns) (log : ℕ) (step : Step) → AreSound logs turns → log < length logs → next_step turns log (get_or logs log []) ≡ Some step → (posted : List Posted) (handoffs : List HandOff) → All (IsPost logs turns.done) posted → All (IsHandOff logs (set turns.done log (get_or turns.done log 0 + 1)) (turns.order ++ log ∷ [])) handoffs → AreApart posted handoffs → All (λ (h : HandOff). IsDone turns.done h.maker) handoffs → AreSound logs (finish (record turns { posted = posted; handoffs = handoffs }) log step.posts)
+finished logs turns log step sound within next posted handoffs are_posted are_handed are_apart makers_done =
     let op : ℕ = get_or turns.done log 0 in
     let done : List ℕ = set turns.done log (op + 1) in
     let inside : log < length turns.done = omega (arith, sound.long) in
@@ -104,6 +84,7 @@ finished logs turns log step sound within next posted handoffs are_posted are_ha
           (All-weaker (IsPost logs turns.done) (IsPost logs done) (still_posted logs turns.done log) posted are_posted)
           (posts_own logs turns.done log step.posts inside (ap (λ (s : Step). s.posts) here));
       handed = are_handed;
+      apart = posted_apart turns.done log step.posts posted handoffs are_apart (All-weaker (IsPost logs turns.done) (λ (b : Posted). IsDone turns.done b.maker) (λ b post. post.maker) posted are_posted) makers_done;
     }
 
 -- the next op of a log takes a block and is done
@@ -132,12 +113,16 @@ claimed_sound logs turns log step name block sound within next claims found =
       made = subst (λ (ls : List ℕ). block.maker.op < turns_had block.maker.log ls) (sym whole) (subst (λ (n : ℕ). block.maker.op < n) (sym maker_had) post.maker.before);
       untaken = subst (λ (ls : List ℕ). turns_had log ls ≤ get_or turns.done log 0) (sym whole) (subst (λ (n : ℕ). n ≤ get_or turns.done log 0) (sym taker_had) (omega arith));
     }) (All-nil (IsHandOff logs (set turns.done log (get_or turns.done log 0 + 1)) (turns.order ++ log ∷ [])))))
+    (handed_apart turns.done log name block turns.posted turns.handoffs named sound.apart found (All-weaker (IsHandOff logs turns.done turns.order) (λ (h : HandOff). IsDone turns.done h.taker) (λ h is. is.taker) turns.handoffs sound.handed))
+    (All-append (λ (h : HandOff). IsDone turns.done h.maker) turns.handoffs (handoff ∷ []) (All-weaker (IsHandOff logs turns.done turns.order) (λ (h : HandOff). IsDone turns.done h.maker) (λ h is. is.maker) turns.handoffs sound.handed) (All-cons (λ (h : HandOff). IsDone turns.done h.maker) handoff [] post.maker (All-nil (λ (h : HandOff). IsDone turns.done h.maker))))
 
 -- and without a block
 finish_sound : (logs : List (List Step)) (turns : Turns) (log : ℕ) (step : Step) → AreSound logs turns → log < length logs → next_step turns log (get_or logs log []) ≡ Some step → AreSound logs (finish turns log step.posts)
 finish_sound logs turns log step sound within next =
     finished logs turns log step sound within next turns.posted turns.handoffs sound.posted
     (All-weaker (IsHandOff logs turns.done turns.order) (IsHandOff logs (set turns.done log (get_or turns.done log 0 + 1)) (turns.order ++ log ∷ [])) (still_handed logs turns.done turns.order log) turns.handoffs sound.handed)
+    sound.apart
+    (All-weaker (IsHandOff logs turns.done turns.order) (λ (h : HandOff). IsDone turns.done h.maker) (λ h is. is.maker) turns.handoffs sound.handed)
 
 take_sound : (logs : List (List Step)) (turns : Turns) (log : ℕ) (step : Step) (name : ℕ) (found : Option Posted) → AreSound logs turns → log < length logs → next_step turns log (get_or logs log []) ≡ Some step → step.claims ≡ Some name → earliest name turns.posted ≡ found → AreSound logs (take_block turns log step found)
 take_sound logs turns log step name None sound within next claims found = sound
@@ -206,6 +191,7 @@ start_sound logs = record {
   counted = λ log below. sym (get_or-replicate (length logs) log 0 0 below);
   posted = All-nil (IsPost logs (replicate (length logs) 0));
   handed = All-nil (IsHandOff logs (replicate (length logs) 0) []);
+  apart = record { blocks = tt; makers = tt; takers = tt; gone = All-nil (λ (h : HandOff). All (λ (b : Posted). h.maker ≢ b.maker) []) };
 }
 
 -- all turns keep to the steps

@@ -1,5 +1,5 @@
 -- What holds of all turns: who made and took each block, and in which order.
-use Rattle.std.specs.Prelude.{ℕ, ◌≡◌, ◌<◌, ◌≤◌, List, [], ◌==◌, All, count_by, length, take, Some, None, slice_index, slice_index_or}
+use Rattle.std.specs.Prelude.{ℕ, ◌≡◌, ◌<◌, ◌≤◌, List, [], ◌==◌, All, count_by, length, take, Some, None, slice_index, slice_index_or, ◌≢◌, ◌∷◌}
 use Rattle.ng_plan.specs.declared.step.Place.{Place}
 use Rattle.ng_plan.specs.declared.step.Step.{Step}
 use Rattle.ng_plan.specs.Turns.{HandOff, Posted, Turns}
@@ -34,6 +34,18 @@ pub record IsHandOff (logs : List (List Step)) (done order : List ℕ) (handoff 
   pub made : handoff.maker.op < turns_had handoff.maker.log (take turns order)
   pub untaken : turns_had handoff.taker.log (take turns order) ≤ handoff.taker.op
 
+-- no two of these have one place
+abbrev pub Apart : {A : Type 0} → (A → Place) → List A → Type 0
+Apart {A} place [] = Unit {0}
+Apart {A} place (x ∷ xs) = All (λ y. place x ≢ place y) xs × Apart place xs
+
+-- no block is handed off twice, or still posted, and no op takes two
+pub record AreApart (posted : List Posted) (handoffs : List HandOff) : Type 0 where
+  pub blocks : Apart (λ block. block.maker) posted
+  pub makers : Apart (λ handoff. handoff.maker) handoffs
+  pub takers : Apart (λ handoff. handoff.taker) handoffs
+  pub gone : All (λ handoff. All (λ block. handoff.maker ≢ block.maker) posted) handoffs
+
 -- the turns so far keep to the steps
 pub record AreSound (logs : List (List Step)) (turns : Turns) : Type 0 where
   pub long : length turns.done ≡ length logs
@@ -41,3 +53,4 @@ pub record AreSound (logs : List (List Step)) (turns : Turns) : Type 0 where
   pub counted : (log : ℕ) → log < length logs → turns_had log turns.order ≡ slice_index turns.done log
   pub posted : All (IsPost logs turns.done) turns.posted
   pub handed : All (IsHandOff logs turns.done turns.order) turns.handoffs
+  pub apart : AreApart turns.posted turns.handoffs

@@ -1,4 +1,4 @@
-ghost use Rattle.std.specs.Prelude.{◌≡◌, ◌<◌, ◌^◌, ◌++◌, ◌∷◌, [], ℕ, List, length, IfOk, IfSome, OnSome, All, MatchOption, Some, None};
+ghost use Rattle.std.specs.Prelude.{◌≡◌, ◌<◌, ◌^◌, ◌++◌, ◌∷◌, [], List, length, IfOk, IfSome, OnSome, All, MatchOption, Some, None};
 ghost use Rattle.std.specs.Option.{option_map};
 ghost use Rattle.ng_mtrace.specs.declared.log.Line.{Line};
 ghost use Rattle.ng_plan.specs.First.{first_op, first_ops, alone, TakesOwn};
@@ -9,8 +9,8 @@ use ng_mtrace::Line;
 use ng_terms::{Host, Items, Op, Origin, Plan};
 use std::alloc::{AllocError, Global};
 
-/// The plan of one log of makes and ends, where each end takes a block of the log. `None`: a line moves a block, makes a
-/// name that is made, or ends one that isn't.
+/// The plan of one log of makes and ends, where each end takes a block of the log. `None`: a line
+/// moves a block, makes a name that is made, or ends one that isn't.
 pub fn first_plan(alloc: Global, log: &[Line]) -> Result<Option<Plan>, Host>
     requires few { length log.now < 2 ^ 32 }
     ensures plan { IfOk result (λ plan. plan ≡ option_map alone (first_ops log.now)) }

@@ -1,4 +1,5 @@
-//! Plans of logs: which block each op takes, what is handed to another log, and whose turn comes next.
+//! Plans of logs: which block each op takes, what is handed to another log, and whose turn comes
+//! next.
 #![tactic(auto)]
 
 mod first;

@@ -1,4 +1,4 @@
-ghost use Rattle.std.specs.Prelude.{◌≡◌, ◌≤◌, List, ℕ, length, IfOk};
+ghost use Rattle.std.specs.Prelude.{◌≡◌, List, ℕ, length, IfOk};
 ghost use Rattle.ng_plan.specs.Numbers.{AreNumbers};
 ghost use Rattle.ng_plan.specs.Plans.{op_of, ops_of, origin as origin_of};
 ghost use Rattle.ng_plan.specs.Schedules.{AreTurns};
@@ -20,7 +20,8 @@ pub fn log_ops(
     owns: &[Option<u32>],
 ) -> Result<Items<Op>, AllocError>
     requires { owns.now ≡ owns_of lines.now }
-    ensures { IfOk result (λ ops. (names : List ℕ) (turns : Turns) → AreTurns names schedule.now turns
+    ensures { IfOk result (λ ops. (names : List ℕ) (turns : Turns)
+        → AreTurns names schedule.now turns
         → ops ≡ ops_of turns log lines.now) }
 {
     let taken = numbers(alloc, schedule.takers.as_slice(), log, lines.len())?;
@@ -40,7 +41,8 @@ fn numbered_ops(
     requires owns { owns.now ≡ owns_of lines.now }
     requires taken { length taken.now ≡ length lines.now }
     requires given { length given.now ≡ length lines.now }
-    ensures { IfOk result (λ ops. (turns : Turns) (log : ℕ) → AreNumbers (takers_of turns) 1 log taken.now
+    ensures { IfOk result (λ ops. (turns : Turns) (log : ℕ)
+        → AreNumbers (takers_of turns) 1 log taken.now
         → AreNumbers (makers_of turns) 1 log given.now → ops.items ≡ ops_of turns log lines.now) }
 {
     let mut ops = Vec::with_capacity(alloc, lines.len())?;

@@ -1,6 +1,7 @@
 ghost use Rattle.std.specs.Prelude.{◌≡◌, ◌≤◌, ◌<◌, ◌^◌, List, ℕ, length, map, sum_by, All, IfOk};
 ghost use Rattle.ng_plan.specs.Plans.{lines_of, ops_from, plan_of, plan_with};
 ghost use Rattle.ng_plan.specs.Schedules.{AreTurns, named_logs};
+ghost use Rattle.ng_plan.specs.Sound.{IsSound};
 ghost use Rattle.ng_plan.specs.Steps.{owns_of, steps_of};
 ghost use Rattle.ng_plan.specs.Tables.{AreKnown, IsNumbered, Rises};
 ghost use Rattle.ng_plan.specs.Turns.{Turns};
@@ -21,6 +22,10 @@ pub fn plan(alloc: Global, logs: &Logs) -> Result<Plan, Host>
     requires few { length logs.now.logs ≤ 16 }
     requires short { sum_by length (lines_of logs.now.logs) ≤ 1000000 }
     ensures plan { IfOk result (λ plan. plan ≡ plan_of (lines_of logs.now.logs)) }
+
+    // Each block has one maker and at most one taker, and is made first; each log has a turn for
+    // each op.
+    ensures sound { IfOk result IsSound }
 {
     match plan_logs(alloc, logs.logs.as_slice()) {
         Ok(plan) => Ok(plan),
@@ -86,7 +91,8 @@ fn all_steps(
     requires short { sum_by length (lines_of logs.now) ≤ 1000000 }
     requires names_fit { length names.now < 2 ^ 32 }
     requires owns { owns.now ≡ map owns_of (lines_of logs.now) }
-    ensures steps { IfOk result (λ steps. named_logs names.now steps.items ≡ map steps_of (lines_of logs.now)) }
+    ensures steps { IfOk result (λ steps. named_logs names.now steps.items
+        ≡ map steps_of (lines_of logs.now)) }
     ensures numbers { IfOk result (λ steps. All (All (IsNumbered (length names.now))) steps.items) }
 {
     let mut all = Vec::with_capacity(alloc, logs.len())?;
@@ -130,7 +136,8 @@ fn all_ops(
 ) -> Result<Items<Items<Op>>, AllocError>
     requires few { length logs.now ≤ 16 }
     requires owns { owns.now ≡ map owns_of (lines_of logs.now) }
-    ensures { IfOk result (λ ops. (names : List ℕ) (turns : Turns) → AreTurns names schedule.now turns
+    ensures { IfOk result (λ ops. (names : List ℕ) (turns : Turns)
+        → AreTurns names schedule.now turns
         → ops ≡ ops_from turns 0 (lines_of logs.now)) }
 {
     let mut all = Items::new(alloc);

@@ -1,4 +1,4 @@
-ghost use Rattle.std.specs.Prelude.{◌≡◌, ◌<◌, ◌++◌, ◌∷◌, [], ◌==◌, ℕ, List, length, slice_index, IfOk, OnOk, Some};
+ghost use Rattle.std.specs.Prelude.{◌≡◌, ◌<◌, ◌++◌, [], ℕ, List, length, slice_index, IfOk, OnOk, Some};
 ghost use Rattle.std.specs.Option.{option_map};
 ghost use Rattle.ng_plan.specs.Blocks.{AreQueues};
 ghost use Rattle.ng_plan.specs.Tables.{Rises, name_at};
@@ -18,7 +18,8 @@ impl Queues {
     /// Empty queues for this many names.
     pub fn new(alloc: Global, names: usize) -> Result<Queues, AllocError>
         ensures len { IfOk result (λ queues. length queues.each.items ≡ names) }
-        ensures empty { IfOk result (λ queues. (names : List ℕ) → length names ≡ length queues.each.items
+        ensures empty { IfOk result (λ queues. (names : List ℕ)
+            → length names ≡ length queues.each.items
             → AreQueues names queues.each.items []) }
     {
         let mut each = Vec::with_capacity(alloc, names)?;
@@ -34,7 +35,8 @@ impl Queues {
         ensures same { OnOk result (length self.new.each.items ≡ length self.old.each.items) }
         ensures posted { OnOk result ((names : List ℕ) (blocks : List Posted) → Rises names
             → length names ≡ length self.old.each.items → AreQueues names self.old.each.items blocks
-            → AreQueues names self.new.each.items (blocks ++ posted_by place (name_at names number))) }
+            → AreQueues names self.new.each.items (blocks ++ posted_by place
+            (name_at names number))) }
     {
         let Some(at) = number else {
             return Ok(());

@@ -1,4 +1,4 @@
-ghost use Rattle.std.specs.Prelude.{◌≡◌, ◌<◌, ◌≤◌, ℕ, List, length, slice_index, slice_index_or, sum_by, unwrap_or, false, All, Ok, IfOk, IfNone, IfSome, OnOk};
+ghost use Rattle.std.specs.Prelude.{◌≡◌, ◌<◌, ◌≤◌, ℕ, List, length, sum_by, false, All, Ok, IfOk, IfNone, IfSome, OnOk};
 ghost use Rattle.ng_plan.specs.Schedules.{AllDone, AreTurns, FitsLogs, IsFirstLeft, named_logs};
 ghost use Rattle.ng_plan.specs.Tables.{IsNumbered, Rises};
 ghost use Rattle.ng_plan.specs.Turns.{Turns, go_on as go_on_of, round as round_of, skip as skip_of, turns_of};
@@ -13,7 +13,8 @@ pub fn all_turns(alloc: Global, names: usize, logs: &[Items<Step>]) -> Result<Sc
     requires few { length logs.now ≤ 16 }
     requires short { sum_by length logs.now ≤ 1000000 }
     requires numbers { All (All (IsNumbered names)) logs.now }
-    ensures { IfOk result (λ schedule. (names_of : List ℕ) → Rises names_of → length names_of ≡ names
+    ensures { IfOk result (λ schedule. (names_of : List ℕ) → Rises names_of
+        → length names_of ≡ names
         → AreTurns names_of schedule (turns_of (named_logs names_of logs.now))) }
 {
     let total = count(logs);
@@ -42,7 +43,8 @@ fn count(logs: &[Items<Step>]) -> usize
 fn go_on(schedule: &mut Schedule, logs: &[Items<Step>]) -> Result<bool, AllocError>
     requires { FitsLogs schedule.old logs.now }
     ensures fits { OnOk result (FitsLogs schedule.new logs.now) }
-    ensures turns { OnOk result ((names : List ℕ) (turns : Turns) → AreTurns names schedule.old turns
+    ensures turns { OnOk result ((names : List ℕ) (turns : Turns)
+        → AreTurns names schedule.old turns
         → AreTurns names schedule.new (go_on_of (named_logs names logs.now) turns)) }
     ensures all { result ≡ Ok false → AllDone schedule.new logs.now }
 {
@@ -59,7 +61,8 @@ fn go_on(schedule: &mut Schedule, logs: &[Items<Step>]) -> Result<bool, AllocErr
 fn round(schedule: &mut Schedule, logs: &[Items<Step>]) -> Result<(), AllocError>
     requires { FitsLogs schedule.old logs.now }
     ensures fits { OnOk result (FitsLogs schedule.new logs.now) }
-    ensures turns { OnOk result ((names : List ℕ) (turns : Turns) → AreTurns names schedule.old turns
+    ensures turns { OnOk result ((names : List ℕ) (turns : Turns)
+        → AreTurns names schedule.old turns
         → AreTurns names schedule.new (round_of (named_logs names logs.now) turns)) }
 {
     for (log, steps) in logs.iter().enumerate() {
@@ -68,11 +71,13 @@ fn round(schedule: &mut Schedule, logs: &[Items<Step>]) -> Result<(), AllocError
     Ok(())
 }
 
-/// The first log with ops left does its op, and its claim takes no block. `false`: all ops are done.
+/// The first log with ops left does its op, and its claim takes no block. `false`: all ops are
+/// done.
 fn skip(schedule: &mut Schedule, logs: &[Items<Step>]) -> Result<bool, AllocError>
     requires { FitsLogs schedule.old logs.now }
     ensures fits { OnOk result (FitsLogs schedule.new logs.now) }
-    ensures turns { OnOk result ((names : List ℕ) (turns : Turns) → AreTurns names schedule.old turns
+    ensures turns { OnOk result ((names : List ℕ) (turns : Turns)
+        → AreTurns names schedule.old turns
         → AreTurns names schedule.new (skip_of (named_logs names logs.now) turns)) }
     ensures all { result ≡ Ok false → AllDone schedule.new logs.now }
 {

@@ -1,5 +1,5 @@
-ghost use Rattle.std.specs.Prelude.{◌≡◌, ◌<◌, ◌≤◌, ◌↔◌, ℕ, List, length, map, slice_get, slice_index, is_some, All, IfOk, OnOk, Some};
-ghost use Rattle.ng_plan.specs.Schedules.{AreTurns, FitsLogs, handed_over};
+ghost use Rattle.std.specs.Prelude.{◌≡◌, ◌<◌, ◌≤◌, ℕ, List, length, map, slice_get, slice_index, is_some, All, IfOk, OnOk, Some};
+ghost use Rattle.ng_plan.specs.Schedules.{AreTurns, handed_over};
 ghost use Rattle.ng_plan.specs.Tables.{IsNumbered, Rises, name_at, named};
 ghost use Rattle.ng_plan.specs.Turns.{Turns, earliest, finish, start, try_claim, turn};
 
@@ -26,7 +26,8 @@ impl Schedule {
     pub fn new(alloc: Global, names: usize, logs: usize, ops: usize) -> Result<Schedule, AllocError>
         ensures logs { IfOk result (λ schedule. length schedule.done.items ≡ logs) }
         ensures names { IfOk result (λ schedule. length schedule.queues.each.items ≡ names) }
-        ensures start { IfOk result (λ schedule. (names : List ℕ) (steps : List (List Step)) → Rises names
+        ensures start { IfOk result (λ schedule. (names : List ℕ) (steps : List (List Step))
+            → Rises names
             → length names ≡ length schedule.queues.each.items → length steps ≡ logs
             → AreTurns names schedule (start steps)) }
     {
@@ -45,8 +46,10 @@ impl Schedule {
         requires short { length steps.now ≤ 1000000 }
         requires numbers { All (IsNumbered (length self.old.queues.each.items)) steps.now }
         ensures logs { OnOk result (length self.new.done.items ≡ length self.old.done.items) }
-        ensures queues { OnOk result (length self.new.queues.each.items ≡ length self.old.queues.each.items) }
-        ensures turns { OnOk result ((names : List ℕ) (turns : Turns) → AreTurns names self.old turns
+        ensures queues { OnOk result
+            (length self.new.queues.each.items ≡ length self.old.queues.each.items) }
+        ensures turns { OnOk result ((names : List ℕ) (turns : Turns)
+            → AreTurns names self.old turns
             → AreTurns names self.new (turn turns log (map (named names) steps.now))) }
     {
         match self.next(log as usize, steps) {
@@ -69,9 +72,12 @@ impl Schedule {
         requires few { slice_index self.old.done.items log < 1000000 }
         requires numbers { IsNumbered (length self.old.queues.each.items) step }
         ensures logs { OnOk result (length self.new.done.items ≡ length self.old.done.items) }
-        ensures queues { OnOk result (length self.new.queues.each.items ≡ length self.old.queues.each.items) }
-        ensures turns { OnOk result ((names : List ℕ) (turns : Turns) → AreTurns names self.old turns
-            → AreTurns names self.new (try_claim turns log (named names step) (name_at names step.claims))) }
+        ensures queues { OnOk result
+            (length self.new.queues.each.items ≡ length self.old.queues.each.items) }
+        ensures turns { OnOk result ((names : List ℕ) (turns : Turns)
+            → AreTurns names self.old turns
+            → AreTurns names self.new (try_claim turns log (named names step)
+            (name_at names step.claims))) }
     {
         match step.claims {
             None => self.finish(log, step.posts),
@@ -90,11 +96,15 @@ impl Schedule {
         requires log { log < length self.old.done.items }
         requires name { name < length self.old.queues.each.items }
         ensures done { OnOk result (self.new.done.items ≡ self.old.done.items) }
-        ensures queues { OnOk result (length self.new.queues.each.items ≡ length self.old.queues.each.items) }
-        ensures found { IfOk result (λ found. (names : List ℕ) (turns : Turns) → AreTurns names self.old turns
+        ensures queues { OnOk result
+            (length self.new.queues.each.items ≡ length self.old.queues.each.items) }
+        ensures found { IfOk result (λ found. (names : List ℕ) (turns : Turns)
+            → AreTurns names self.old turns
             → found ≡ is_some (earliest (slice_index names name) turns.posted)) }
-        ensures turns { OnOk result ((names : List ℕ) (turns : Turns) → AreTurns names self.old turns
-            → AreTurns names self.new (handed_over turns log (earliest (slice_index names name) turns.posted))) }
+        ensures turns { OnOk result ((names : List ℕ) (turns : Turns)
+            → AreTurns names self.old turns
+            → AreTurns names self.new (handed_over turns log (earliest
+            (slice_index names name) turns.posted))) }
     {
         let Some(maker) = self.queues.take(name as usize) else {
             return Ok(false);
@@ -111,8 +121,10 @@ impl Schedule {
         requires few { slice_index self.old.done.items log < 1000000 }
         requires posts { (at : ℕ) → posts ≡ Some at → at < length self.old.queues.each.items }
         ensures logs { OnOk result (length self.new.done.items ≡ length self.old.done.items) }
-        ensures queues { OnOk result (length self.new.queues.each.items ≡ length self.old.queues.each.items) }
-        ensures turns { OnOk result ((names : List ℕ) (turns : Turns) → AreTurns names self.old turns
+        ensures queues { OnOk result
+            (length self.new.queues.each.items ≡ length self.old.queues.each.items) }
+        ensures turns { OnOk result ((names : List ℕ) (turns : Turns)
+            → AreTurns names self.old turns
             → AreTurns names self.new (finish turns log (name_at names posts))) }
     {
         let op = self.done[log as usize];

@@ -5,7 +5,8 @@ pub struct Place {
     pub op: u32,
 }
 
-/// What an op has to do with other logs: the name that it claims, and the name under which it posts a block. In the code
+/// What an op has to do with other logs: the name that it claims, and the name under which it posts
+/// a block. In the code
 /// a name is its number among the sorted names.
 #[derive(Clone, Copy, Drop)]
 pub struct Step {

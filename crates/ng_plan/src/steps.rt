@@ -1,4 +1,4 @@
-ghost use Rattle.std.specs.Prelude.{◌≡◌, ◌≤◌, ◌<◌, ◌^◌, ◌∷◌, List, ℕ, length, map, Some, false, slice_index_or, IfOk, IfSome, All};
+ghost use Rattle.std.specs.Prelude.{◌≡◌, ◌≤◌, ◌<◌, ◌^◌, ◌∷◌, List, ℕ, length, map, false, slice_index_or, IfOk, IfSome, All};
 ghost use Rattle.ng_mtrace.specs.declared.log.Line.{Line};
 ghost use Rattle.ng_plan.specs.Mentions.{ended as ended_by, handed, own as own_by};
 ghost use Rattle.ng_plan.specs.Steps.{owns_of, step_of, steps_of};
