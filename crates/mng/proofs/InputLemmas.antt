@@ -13,7 +13,7 @@ use Rattle.std.proofs.lemmas.List.Elements.{All-cons, All-head, All-nil}
 use Rattle.std.specs.List.{All}
 use Rattle.ng_plan.specs.First.{TakesOwn, alone, first_op, first_ops, first_ops_behind}
 use Rattle.ng_replay.proofs.FirstLemmas.{with_op-Some}
-use Rattle.ng_report.specs.Room.{op_count}
+use Rattle.ng_terms.specs.Calls.{op_count}
 use Rattle.ng_replay.specs.Lone.{IsLone}
 use Rattle.ng_replay.proofs.FirstLemmas.{IsLone-first}
 use Rattle.ng_terms.specs.declared.plan.Op.{Op}

@@ -6,13 +6,13 @@ use Rattle.ng_plan.specs.First.{alone}
 use Rattle.ng_replay.proofs.AccountLemmas.{Account-alone}
 use Rattle.ng_replay.specs.Lone.{FitSoFar, IsLone, MostForOps}
 use Rattle.ng_replay.specs.Serving.{plain}
-use Rattle.ng_report.specs.Room.{HasReplies, op_count}
+use Rattle.ng_report.specs.Room.{HasReplies}
 use Rattle.ng_terms.specs.declared.entry.Entry.{Entry}
 use Rattle.ng_terms.specs.declared.plan.Op.{Op}
 use Rattle.ng_terms.specs.declared.plan.Plan.{Plan}
 use Rattle.ng_terms.specs.declared.reply.Reply.{Reply}
 use Rattle.ng_terms.specs.Accounts.{Counts, IsExcused}
-use Rattle.ng_terms.specs.Calls.{calls_of_log}
+use Rattle.ng_terms.specs.Calls.{calls_of_log, op_count}
 use Rattle.ng_terms.specs.Heap.{space_of}
 use Rattle.ng_terms.specs.Histories.{Event, IsLegal}
 use Rattle.mng.specs.Inputs.{IsAlone}

@@ -1,6 +1,7 @@
 ghost use Rattle.std.specs.Prelude.{◌≡◌, ◌↔◌, ◌*◌, ◌<◌, ◌≤◌, ◌^◌, [], All, IfOk, IfErr, Err, vec_capacity};
 ghost use Rattle.ng_replay.specs.Lone.{IsLone};
-ghost use Rattle.ng_report.specs.Room.{op_count, room_of};
+ghost use Rattle.ng_report.specs.Room.{room_of};
+ghost use Rattle.ng_terms.specs.Calls.{op_count};
 ghost use Rattle.ng_terms.specs.Causes.{Rose};
 ghost use Rattle.mng.specs.Inputs.{IsAlone, PlansInput, RejectsInput};
 ghost use Rattle.mng.specs.Statuses.{IsEarly, IsInputFault, TellsLine};

@@ -1,7 +1,7 @@
 ghost use Rattle.std.specs.Prelude.{◌≡◌, ◌≤◌, ◌*◌, [], All, length, sum_by, vec_capacity};
 ghost use Rattle.ng_replay.specs.Lone.{IsLone};
 ghost use Rattle.ng_replay.specs.Serving.{counts_of};
-ghost use Rattle.ng_report.specs.Room.{op_count};
+ghost use Rattle.ng_terms.specs.Calls.{op_count};
 ghost use Rattle.ng_terms.specs.Causes.{Rose};
 ghost use Rattle.mng.specs.Inputs.{IsAlone};
 ghost use Rattle.mng.specs.Statuses.{IsLate};

@@ -1,29 +1,17 @@
 -- What a heap's calls enter, and which blocks live after them.
 use Rattle.std.specs.Prelude.{◌≡◌, ◌≢◌, ◌⊎◌, ℕ, ◌+◌, ◌<◌, ◌≤◌, max, false, List, [], ◌∷◌, Option, Some, None}
 use Rattle.ng_mapper.specs.declared.refusals.Refusals.{Refusals}
-use Rattle.ng_terms.specs.declared.entry.Entry.{Entry}
-use Rattle.ng_terms.specs.declared.entry.Entry.TheVariants as entry
 use Rattle.ng_terms.specs.declared.entry.Extent.{Extent}
 use Rattle.ng_terms.specs.declared.refusal.AllocRefusal.{AllocRefusal}
 use Rattle.ng_terms.specs.declared.refusal.AllocRefusal.TheVariants.{NoMemory, TooLarge}
 use Rattle.ng_terms.specs.declared.reply.Mode.{Mode}
 use Rattle.ng_terms.specs.Accounts.{Counts, pages_for}
-use Rattle.ng_terms.specs.Heap.{IsLive, Space, empty, large}
-use Rattle.ng_terms.specs.Histories.{Event, state_after}
+use Rattle.ng_terms.specs.Heap.{IsLive, Space, large}
 
 -- what a heap keeps from its opening on: where blocks may lie, and how many map calls had been refused
 pub record Setting : Type 0 where
   pub space : Space
   pub refusals : ℕ
-
--- the blocks that live after a history
-abbrev pub live_of : List Event → List Extent
-live_of history = (state_after empty history).live
-
--- what a refused request of n bytes enters
-abbrev pub refusal_entry : ℕ → AllocRefusal → Entry
-refusal_entry n (NoMemory excuse) = entry.NoMemory n excuse
-refusal_entry n TooLarge = entry.TooLarge 1 n 16
 
 -- a refusal's trace in the mapper's counts: none where the size was too large
 abbrev pub AddsRefusal : Counts → Counts → ℕ → AllocRefusal → Type 0

@@ -1,10 +1,10 @@
 ghost use Rattle.std.specs.Prelude.{◌≡◌, ◌+◌, ◌≤◌, ◌↔◌, ◌++◌, ◌∷◌, [], ℕ, List, max, IfOk, IfErr, OnOk, Err};
 ghost use Rattle.ng_terms.specs.Accounts.{Counts};
 ghost use Rattle.ng_terms.specs.Heap.{IsLive, IsTooLarge, MayGive, extent};
-ghost use Rattle.ng_terms.specs.Histories.{Event};
+ghost use Rattle.ng_terms.specs.Histories.{Event, live_after, refusal_entry};
 ghost use Rattle.ng_terms.specs.declared.entry.Entry.TheVariants.{Give, Take};
 ghost use Rattle.ng_terms.specs.declared.refusal.AllocRefusal.TheVariants as refusal;
-ghost use Rattle.ng_replay.specs.Serving.{Setting, live_of, refusal_entry, AddsRefusal};
+ghost use Rattle.ng_replay.specs.Serving.{Setting, AddsRefusal};
 
 use ng_terms::AllocRefusal;
 
@@ -26,7 +26,7 @@ pub trait SequentialHeap {
     fn malloc(&mut self, caller: u32, n: u64) -> Result<u64, AllocRefusal>
         requires { 1 ≤ spare self.old }
         ensures given { IfOk result (λ at. history self.new ≡ history self.old ++ (caller, Give n 16 at) ∷ []) }
-        ensures legal { IfOk result (λ at. MayGive (setting self.old).space (live_of (history self.old)) (extent at n 16)) }
+        ensures legal { IfOk result (λ at. MayGive (setting self.old).space (live_after (history self.old)) (extent at n 16)) }
         ensures calm { OnOk result (counts self.new ≡ counts self.old) }
 
         ensures large { (result ≡ Err refusal.TooLarge) ↔ IsTooLarge 1 n 16 }
@@ -39,7 +39,7 @@ pub trait SequentialHeap {
     /// Takes the block at an address back.
     fn free(&mut self, caller: u32, at: u64)
         requires room { 1 ≤ spare self.old }
-        requires live { IsLive (live_of (history self.old)) at }
+        requires live { IsLive (live_after (history self.old)) at }
         ensures taken { history self.new ≡ history self.old ++ (caller, Take at) ∷ [] }
         ensures calm { counts self.new ≡ counts self.old }
         ensures spare { spare self.new + 1 ≡ spare self.old }

@@ -1,7 +1,8 @@
 ghost use Rattle.std.specs.Prelude.{◌≡◌, ◌+◌, ◌≤◌, ◌++◌, map, IfSome, None, Some};
 ghost use Rattle.ng_terms.specs.Calls.{FitsMoved, FitsOp, calls_for, calls_of, reply_of, reply_of_free, size_of, standing};
 ghost use Rattle.ng_terms.specs.Heap.{IsLive};
-ghost use Rattle.ng_replay.specs.Serving.{live_of, plain, Carries, MostFor};
+ghost use Rattle.ng_replay.specs.Serving.{plain, Carries, MostFor};
+ghost use Rattle.ng_terms.specs.Histories.{live_after};
 
 use crate::heap::SequentialHeap;
 use crate::make::make;
@@ -10,10 +11,10 @@ use ng_terms::{AllocRefusal, Made, Op, Origin, Reply};
 /// Does an op for a caller. `source` is the address of the block that the op takes.
 pub fn do_op<H: SequentialHeap>(heap: &mut H, caller: u32, op: &Op, source: Option<u64>) -> Reply
     requires room { 2 ≤ H.spare heap.old }
-    requires live { IfSome source (IsLive (live_of (H.history heap.old))) }
+    requires live { IfSome source (IsLive (live_after (H.history heap.old))) }
     ensures fits { FitsOp plain source op.now result }
     ensures history { H.history heap.new ≡ H.history heap.old ++ map (λ entry. (caller, entry)) (calls_of plain op.now result) }
-    ensures carries { Carries (live_of (H.history heap.old)) (live_of (H.history heap.new)) source (standing result) }
+    ensures carries { Carries (live_after (H.history heap.old)) (live_after (H.history heap.new)) source (standing result) }
 
     ensures most { MostFor (H.counts heap.old).most (H.counts heap.new).most (size_of op.now) }
     ensures spare { H.spare heap.old ≤ H.spare heap.new + 2 }
@@ -57,10 +58,10 @@ fn reply_to_make(made: Made) -> Reply
 /// Frees the block at the source, where there is one.
 fn free<H: SequentialHeap>(heap: &mut H, caller: u32, from: Origin, source: Option<u64>) -> Reply
     requires room { 1 ≤ H.spare heap.old }
-    requires live { IfSome source (IsLive (live_of (H.history heap.old))) }
+    requires live { IfSome source (IsLive (live_after (H.history heap.old))) }
     ensures fits { result ≡ reply_of_free from source }
     ensures history { H.history heap.new ≡ H.history heap.old ++ map (λ entry. (caller, entry)) (calls_for plain 0 result) }
-    ensures carries { Carries (live_of (H.history heap.old)) (live_of (H.history heap.new)) source (standing result) }
+    ensures carries { Carries (live_after (H.history heap.old)) (live_after (H.history heap.new)) source (standing result) }
 
     ensures calm { H.counts heap.new ≡ H.counts heap.old }
     ensures spare { H.spare heap.old ≤ H.spare heap.new + 1 }
@@ -81,10 +82,10 @@ fn free<H: SequentialHeap>(heap: &mut H, caller: u32, from: Origin, source: Opti
 /// Moves the block at an address to a new one of a size. Where the new one is refused the old one stands.
 fn move_from<H: SequentialHeap>(heap: &mut H, caller: u32, old: u64, size: u64) -> Reply
     requires room { 2 ≤ H.spare heap.old }
-    requires live { IsLive (live_of (H.history heap.old)) old }
+    requires live { IsLive (live_after (H.history heap.old)) old }
     ensures fits { FitsMoved old size result }
     ensures history { H.history heap.new ≡ H.history heap.old ++ map (λ entry. (caller, entry)) (calls_for plain size result) }
-    ensures carries { Carries (live_of (H.history heap.old)) (live_of (H.history heap.new)) (Some old) (standing result) }
+    ensures carries { Carries (live_after (H.history heap.old)) (live_after (H.history heap.new)) (Some old) (standing result) }
 
     ensures most { MostFor (H.counts heap.old).most (H.counts heap.new).most size }
     ensures spare { H.spare heap.old ≤ H.spare heap.new + 2 }

@@ -5,8 +5,8 @@ use Rattle.ng_terms.specs.declared.plan.Op.{Op}
 use Rattle.ng_terms.specs.declared.plan.Plan.{Plan}
 use Rattle.ng_terms.specs.declared.reply.Mode.{Mode}
 use Rattle.ng_terms.specs.declared.reply.Reply.{Reply}
-use Rattle.ng_terms.specs.Calls.{Fits, FitsOp, source_of, origin_of}
-use Rattle.ng_report.specs.Room.{HasReplies, op_count, room_of}
+use Rattle.ng_terms.specs.Calls.{Fits, FitsOp, source_of, origin_of, op_count}
+use Rattle.ng_report.specs.Room.{HasReplies, room_of}
 
 -- one reply for each op, told log by log
 pub HasReplies-from_each : (logs : List (List Op)) (replies : List (List Reply)) → length replies ≡ length logs

@@ -9,7 +9,8 @@ use Rattle.ng_terms.specs.declared.reply.Reply.{Reply}
 use Rattle.ng_terms.specs.Reports.{report, summary, call_lines, count_line}
 use Rattle.ng_report.specs.declared.counts.Counts.{Counts}
 use Rattle.ng_report.specs.Counts.{IsCount}
-use Rattle.ng_report.specs.Room.{HasReplies, reply_count, op_count}
+use Rattle.ng_report.specs.Room.{HasReplies, reply_count}
+use Rattle.ng_terms.specs.Calls.{op_count}
 use Rattle.ng_report.specs.Summary.{summary_of}
 use Rattle.ng_report.proofs.SummaryLemmas.{count-give, count-take, count-resize, count-no_memory, count-too_large, count-bad_align}
 

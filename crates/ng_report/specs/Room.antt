@@ -4,11 +4,8 @@ use Rattle.std.specs.List.{AllZip}
 use Rattle.ng_terms.specs.declared.plan.Op.{Op}
 use Rattle.ng_terms.specs.declared.plan.Plan.{Plan}
 use Rattle.ng_terms.specs.declared.reply.Reply.{Reply}
+use Rattle.ng_terms.specs.Calls.{op_count}
 use Rattle.ng_report.specs.declared.room.TheConstants.{OP, SUMMARY}
-
--- the ops of all logs
-abbrev pub op_count : List (List Op) → ℕ
-op_count logs = sum_by (λ ops. length ops) logs
 
 -- the replies of all logs
 abbrev pub reply_count : List (List Reply) → ℕ

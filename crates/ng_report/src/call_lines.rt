@@ -1,7 +1,8 @@
 //! The lines of all calls.
 ghost use Rattle.std.specs.Prelude.{◌≡◌, ◌≤◌, ◌+◌, ◌*◌, ◌++◌, length, vec_len, vec_capacity};
 ghost use Rattle.ng_terms.specs.Reports.{log_lines, call_lines};
-ghost use Rattle.ng_report.specs.Room.{op_count, HasReplies};
+ghost use Rattle.ng_report.specs.Room.{HasReplies};
+ghost use Rattle.ng_terms.specs.Calls.{op_count};
 
 use crate::op_lines::put_op;
 use crate::room::OP;

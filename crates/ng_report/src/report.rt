@@ -1,7 +1,8 @@
 //! The report of a plan's replies.
 ghost use Rattle.std.specs.Prelude.{◌≡◌, ◌≤◌, ◌<◌, ◌+◌, ◌^◌, ◌++◌, vec_len, vec_capacity};
 ghost use Rattle.ng_terms.specs.Reports.{report};
-ghost use Rattle.ng_report.specs.Room.{op_count, room_of, HasReplies};
+ghost use Rattle.ng_report.specs.Room.{room_of, HasReplies};
+ghost use Rattle.ng_terms.specs.Calls.{op_count};
 
 use crate::call_lines::put_calls;
 use crate::counting::count_replies;

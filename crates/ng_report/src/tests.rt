@@ -1,5 +1,6 @@
 ghost use Rattle.std.specs.Prelude.{◌≡◌, ◌≤◌, ◌∷◌, [], length};
-ghost use Rattle.ng_report.specs.Room.{op_count, HasReplies};
+ghost use Rattle.ng_report.specs.Room.{HasReplies};
+ghost use Rattle.ng_terms.specs.Calls.{op_count};
 
 use crate::{render, report_room};
 use ng_terms::{Items, Made, Mode, Op, Origin, Plan, Reply};

@@ -1,5 +1,5 @@
 -- Which replies fit a plan, and which heap calls they stand for.
-use Rattle.std.specs.Prelude.{◌≡◌, ◌⊎◌, ℕ, ◌+◌, ◌<◌, ◌==◌, Bool, true, false, if◌then◌else◌, List, ◌∷◌, [], Option, Some, None, length, slice_index_or, find, flat_map, unwrap_or, is_some}
+use Rattle.std.specs.Prelude.{◌≡◌, ◌⊎◌, ℕ, ◌+◌, ◌<◌, ◌==◌, Bool, true, false, if◌then◌else◌, List, ◌∷◌, [], Option, Some, None, length, slice_index_or, find, flat_map, sum_by, unwrap_or, is_some}
 use Rattle.std.specs.List.{AllZip, zip}
 use Rattle.std.specs.Option.{option_and_then}
 use Rattle.ng_terms.specs.declared.entry.Entry.{Entry}
@@ -15,6 +15,10 @@ use Rattle.ng_terms.specs.declared.reply.Mode.{Mode}
 use Rattle.ng_terms.specs.declared.reply.Reply.{Reply}
 use Rattle.ng_terms.specs.declared.reply.Reply.TheVariants.{Given, Freed, Moved, NoMemory, TooLarge, BadAlign, Skipped, Absent, Fresh}
 use Rattle.ng_terms.specs.Heap.{IsAlignment, IsTooLarge}
+
+-- the ops of all logs
+abbrev pub op_count : List (List Op) → ℕ
+op_count logs = sum_by (λ ops. length ops) logs
 
 -- the alignment that a make asks for
 abbrev pub align_of : Mode → ℕ

@@ -7,7 +7,7 @@ use Rattle.ng_terms.specs.declared.entry.Entry.TheVariants as entry
 use Rattle.ng_terms.specs.declared.entry.Extent.{Extent}
 use Rattle.ng_terms.specs.Accounts.{IsExcused}
 use Rattle.ng_terms.specs.Heap.{State, empty, extent, space_of, after, without, IsLive, IsTooLarge, MayGive}
-use Rattle.ng_terms.specs.Histories.{Event, state_after}
+use Rattle.ng_terms.specs.Histories.{Event, state_after, refusal_entry}
 use Rattle.ng_terms.proofs.HistoryLemmas.{state_after-push, IsLegal-push}
 use Rattle.ng_terms.proofs.LiveLemmas.{Contains-cons_cases, Contains-of_filter}
 use Rattle.ng_mapper.specs.Mapping.{Span}
@@ -16,7 +16,7 @@ use Rattle.plain_heap.specs.declared.group.Group.{Group}
 use Rattle.plain_heap.specs.declared.table.Table.{Table}
 use Rattle.ng_terms.specs.declared.refusal.AllocRefusal.{AllocRefusal}
 use Rattle.ng_terms.specs.declared.refusal.AllocRefusal.TheVariants.{NoMemory, TooLarge}
-use Rattle.plain_heap.specs.Plain.{refusal_entry, IsNewExcuse, HasExcuse}
+use Rattle.plain_heap.specs.Plain.{IsNewExcuse, HasExcuse}
 use Rattle.plain_heap.specs.Slots.{IsPlaced, Places, Frees}
 use Rattle.plain_heap.specs.Sound.{ArePlaced, IsSound, IsWord}
 use Rattle.plain_heap.proofs.ExcuseLemmas.{IsExcused-later, MayExcuse-new}

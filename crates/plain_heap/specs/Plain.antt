@@ -3,11 +3,10 @@ use Rattle.std.specs.Prelude.{◌≡◌, ℕ, ◌*◌, ◌≤◌, List, [], ◌�
 use Rattle.ng_mapper.specs.Mapping.{Span}
 use Rattle.ng_mapper.specs.declared.refusals.Refusals.{Refusals}
 use Rattle.ng_terms.specs.declared.entry.Entry.{Entry}
-use Rattle.ng_terms.specs.declared.entry.Entry.TheVariants as entry
 use Rattle.ng_terms.specs.Causes.{Rose}
 use Rattle.ng_terms.specs.declared.entry.Extent.{Extent}
-use Rattle.ng_terms.specs.Heap.{Space, space_of, empty}
-use Rattle.ng_terms.specs.Histories.{Event, state_after}
+use Rattle.ng_terms.specs.Heap.{Space, space_of}
+use Rattle.ng_terms.specs.Histories.{Event, live_after}
 use Rattle.ng_terms.specs.declared.refusal.AllocRefusal.{AllocRefusal}
 use Rattle.ng_terms.specs.declared.refusal.AllocRefusal.TheVariants.{NoMemory, TooLarge}
 
@@ -26,7 +25,7 @@ space_in shown = space_of (4096 * shown.span.size)
 
 -- the blocks that live
 abbrev pub live_in : Shown → List Extent
-live_in shown = (state_after empty shown.history).live
+live_in shown = live_after shown.history
 
 -- a heap without a call, with room for so many
 abbrev pub fresh : ℕ → Span → Refusals → Shown
@@ -41,11 +40,6 @@ fresh entries span refused = record {
 -- the caller entered one call more
 abbrev pub Enters : Shown → Shown → ℕ → Entry → Type 0
 Enters old new caller call = new.history ≡ old.history ++ (caller, call) ∷ []
-
--- what a refused request of n bytes enters
-abbrev pub refusal_entry : ℕ → AllocRefusal → Entry
-refusal_entry n (NoMemory excuse) = entry.NoMemory n excuse
-refusal_entry n TooLarge = entry.TooLarge 1 n 16
 
 -- the excuse is the count of refusals, which rose
 pub record IsNewExcuse (before now excuse : ℕ) : Type 0 where

@@ -1,9 +1,8 @@
 ghost use Rattle.std.specs.Prelude.{◌≡◌, ◌+◌, ◌-◌, ◌*◌, ◌^◌, ◌<◌, ◌≤◌, ◌++◌, ◌∷◌, [], ◌↔◌, max, All, IfOk, IfErr, OnOk, OnErr, vec_len, vec_capacity};
-ghost use Rattle.plain_heap.specs.Plain.{refusal_entry};
 ghost use Rattle.plain_heap.specs.Sound.{IsWord};
 ghost use Rattle.ng_terms.specs.Accounts.{IsExcused, pages_for};
 ghost use Rattle.ng_terms.specs.Heap.{extent, IsLive, IsTooLarge, MayGive};
-ghost use Rattle.ng_terms.specs.Histories.{IsLegal};
+ghost use Rattle.ng_terms.specs.Histories.{IsLegal, refusal_entry};
 
 use crate::arena::Arena;
 use ng_mapper::Mapper;
@@ -45,7 +44,8 @@ impl<M: Mapper> Model for PlainHeap<M> {
 }
 
 impl<M: Mapper> PlainHeap<M> {
-    ghost use Rattle.plain_heap.specs.Plain.{fresh, Enters, live_in, space_in, refusal_entry, HasExcuse};
+    ghost use Rattle.plain_heap.specs.Plain.{fresh, Enters, live_in, space_in, HasExcuse};
+    ghost use Rattle.ng_terms.specs.Histories.{refusal_entry};
 
     /// Opens a heap with room for so many calls, over a mapper of at most 16384 pages. It takes all
     /// of its memory now. Where the host has too little, the mapper is handed back.

@@ -1,5 +1,5 @@
 use Rattle.std.proofs.Common.{◌≡◌, length, rules}
-use Rattle.ng_report.specs.Room.{op_count}
+use Rattle.ng_terms.specs.Calls.{op_count}
 use Rattle.mng.proofs.RunLemmas.{HasReplies-alone}
 use Rattle.mng.proofs.run.run.Goals as goal
 

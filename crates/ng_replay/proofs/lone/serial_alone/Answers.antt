@@ -6,7 +6,8 @@ use Rattle.ng_terms.specs.declared.plan.Op.TheVariants.{Make}
 use Rattle.ng_terms.specs.declared.reply.Reply.{Reply}
 use Rattle.ng_terms.specs.Calls.{FitsOp, origin_of, standing}
 use Rattle.ng_replay.specs.Lone.{source_in}
-use Rattle.ng_replay.specs.Serving.{Carries, live_of, plain}
+use Rattle.ng_replay.specs.Serving.{Carries, plain}
+use Rattle.ng_terms.specs.Histories.{live_after}
 use Rattle.ng_replay.proofs.LoneLemmas.{AreHeld-more, FitSoFar-more, MostForOps-more, calls_of_log-more, history-more}
 use Rattle.ng_replay.proofs.lone.serial_alone.Goals as goal
 
@@ -21,7 +22,7 @@ loop-op-preserved g c =
     let grown : c.push_reserved.new.self.items ≡ before ++ reply ∷ [] = search (rules, c.push_reserved.ensures.items) in
     let source : c.source_of_op-source.result ≡ source_in before (origin_of op) = c.source_of_op-source.ensures ∙ ap (λ (r : List Reply). source_in r (origin_of op)) c.as_slice.ensures.value in
     let fits : FitsOp plain (source_in before (origin_of op)) op reply = rw source at c.do_op-reply.ensures.fits in
-    let carries : Carries (live_of (g.H.SequentialHeap.history c.loop-op.heap)) (live_of (g.H.SequentialHeap.history c.do_op-reply.new.heap)) (source_in before (origin_of op)) (standing reply) = rw source at c.do_op-reply.ensures.carries in
+    let carries : Carries (live_after (g.H.SequentialHeap.history c.loop-op.heap)) (live_after (g.H.SequentialHeap.history c.do_op-reply.new.heap)) (source_in before (origin_of op)) (standing reply) = rw source at c.do_op-reply.ensures.carries in
     record {
       count = search rules;
       room = search rules;

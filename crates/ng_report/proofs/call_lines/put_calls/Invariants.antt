@@ -3,7 +3,8 @@ use Rattle.std.specs.Iterator.Adapters.{zip_first, zip_second}
 use Rattle.ng_report.proofs.CallLemmas.{lines_from}
 use Rattle.std.specs.Slice.Iter.{iter_rest}
 use Rattle.ng_terms.specs.Reports.{call_lines}
-use Rattle.ng_report.specs.Room.{op_count, HasReplies}
+use Rattle.ng_report.specs.Room.{HasReplies}
+use Rattle.ng_terms.specs.Calls.{op_count}
 use Rattle.ng_report.specs.declared.room.TheConstants.{OP}
 use Rattle.ng_report.proofs.call_lines.put_calls.Given as goal
 
