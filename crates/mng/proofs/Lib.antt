@@ -1,3 +1,3 @@
 pub mod InputLemmas
-pub mod RunLemmas
+pub mod CompleteLemmas
 pub mod WordLemmas

@@ -1,5 +1,5 @@
 -- What the top call owes for each status.
-use Rattle.std.specs.Prelude.{◌≡◌, ℕ, Bool, List, [], ◌∷◌, Option}
+use Rattle.std.specs.Prelude.{◌≡◌, ℕ, Bool, List, Option}
 use Rattle.ng_mtrace.specs.Streams.{added, WritesPart}
 use Rattle.ng_replay.specs.Serving.{plain}
 use Rattle.ng_terms.specs.declared.entry.Entry.{Entry}
@@ -10,7 +10,7 @@ use Rattle.ng_terms.specs.Reports.{report}
 use Rattle.mng.specs.Inputs.{PlansInput}
 use Rattle.mng.specs.Words.{serial_words}
 use Rattle.mng.specs.declared.status.Status.{Status}
-use Rattle.mng.specs.declared.status.Status.TheVariants.{Done, Usage, ReadFault, BadLine, WriteFault, Host}
+use Rattle.mng.specs.declared.status.Status.TheVariants.{Done, Usage, ReadFault, BadLine, Limit, NoLog, WriteFault, Host}
 
 -- a run of a plan in a space: there are replies and books with which its account holds, and this text is their report
 pub record Runs (plan : Plan) (calls_shown : Bool) (size : ℕ) (before now : Counts) (live_pages : ℕ) (text : List ℕ) : Type 0 where
@@ -39,10 +39,10 @@ pub record WritesBeginning (texts : List (List ℕ)) (left left' : Option (List 
   pub serves : Serves texts left left' size before now live_pages text
   pub part : WritesPart written written' text
 
--- the replies of one log have books with which the account holds
-pub record Accounts (plan : Plan) (size : ℕ) (before now : Counts) (replies : List Reply) : Type 0 where
+-- the replies of a plan's ops have books with which the account holds
+pub record Accounts (plan : Plan) (size : ℕ) (before now : Counts) (replies : List (List Reply)) : Type 0 where
   pub books : List (List Entry)
-  pub account : Account plan plain (replies ∷ []) books size before now
+  pub account : Account plan plain replies books size before now
 
 -- how a run ends: its report was written, or a beginning of it
 abbrev pub Ends : Plan → Bool → ℕ → Counts → Counts → ℕ → Option (List ℕ) → Option (List ℕ) → Status → Type 0
@@ -53,4 +53,6 @@ Ends plan calls_shown size before now live_pages written written' WriteFault =
 Ends plan calls_shown size before now live_pages written written' Usage = ⊥
 Ends plan calls_shown size before now live_pages written written' ReadFault = ⊥
 Ends plan calls_shown size before now live_pages written written' (BadLine line) = ⊥
+Ends plan calls_shown size before now live_pages written written' (Limit line) = ⊥
+Ends plan calls_shown size before now live_pages written written' NoLog = ⊥
 Ends plan calls_shown size before now live_pages written written' Host = ⊥

@@ -1,18 +1,22 @@
-ghost use Rattle.std.specs.Prelude.{◌≡◌, ◌↔◌, ◌*◌, ◌<◌, ◌≤◌, ◌^◌, [], All, IfOk, IfErr, Err, vec_capacity};
-ghost use Rattle.ng_replay.specs.Lone.{IsLone};
+ghost use Rattle.std.specs.Prelude.{◌≡◌, ◌↔◌, ◌≤◌, ℕ, [], IfOk, IfErr, Err, length, vec_capacity};
+ghost use Rattle.ng_mtrace.specs.Reads.{MeetsFault};
+ghost use Rattle.ng_mtrace.specs.declared.log_fault.LogFault.TheVariants as fault;
+ghost use Rattle.ng_plan.specs.Sound.{IsSound};
+ghost use Rattle.ng_replay.specs.Room.{HasRoom};
 ghost use Rattle.ng_report.specs.Room.{room_of};
 ghost use Rattle.ng_terms.specs.Calls.{op_count};
 ghost use Rattle.ng_terms.specs.Causes.{Rose};
-ghost use Rattle.mng.specs.Inputs.{IsAlone, PlansInput, RejectsInput};
-ghost use Rattle.mng.specs.Statuses.{IsEarly, IsInputFault, TellsLine};
+ghost use Rattle.mng.specs.Inputs.{HasNoLog, PlansInput};
+ghost use Rattle.mng.specs.Statuses.{told_by, IsEarly, IsInputFault};
 ghost use Rattle.mng.specs.Words.{texts_of, serial_words, InLanguage};
 
 use crate::status::Status;
 use crate::words::command;
-use ng_mtrace::{FirstFault, Source, read_first};
-use ng_plan::first_plan;
+use ng_mtrace::{LogFault, Source, read_logs};
+use ng_plan::plan;
+use ng_replay::Room;
 use ng_report::report_room;
-use ng_terms::{Host, Plan, Reply};
+use ng_terms::{Host, Plan};
 use std::alloc::Global;
 
 /// What a run needs, all of it made before the first heap call.
@@ -21,12 +25,12 @@ pub struct Prepared {
     pub plan: Plan,
     /// Whether the report has a line for each call.
     pub calls_shown: bool,
-    /// Room for a reply to each op.
-    pub replies: Vec<Reply>,
+    /// Room for the replies and the hand-offs.
+    pub room: Room,
     /// Room for the report.
     pub text: Vec<u8>,
-    ghost no_replies: { replies.items ≡ [] },
-    ghost reply_room: { op_count plan.logs ≤ vec_capacity replies },
+    ghost few: { length plan.logs ≤ 16 },
+    ghost short: { op_count plan.logs ≤ 1000000 },
     ghost no_text: { text.items ≡ [] },
     ghost text_room: { room_of plan calls_shown ≤ vec_capacity text },
 }
@@ -39,14 +43,16 @@ pub fn prepare<I: Source>(
 ) -> Result<Prepared, Status>
     ensures words { IfOk result (λ run. texts_of words.now ≡ serial_words run.calls_shown) }
     ensures input { IfOk result (λ run. PlansInput (I.left input.old) (I.left input.new) run.plan) }
-    ensures alone { IfOk result (λ run. IsAlone run.plan) }
-    ensures few { IfOk result (λ run. op_count run.plan.logs < 2 ^ 32) }
-    ensures lone { IfOk result (λ run. All IsLone run.plan.logs) }
+    ensures sound { IfOk result (λ run. IsSound run.plan) }
+    ensures room { IfOk result (λ run. HasRoom run.room run.plan) }
 
     ensures usage { (result ≡ Err Status.Usage) ↔ ¬ InLanguage (texts_of words.now) }
     ensures read { result ≡ Err Status.ReadFault → Rose (I.faults input.old) (I.faults input.new) }
-    ensures other { result ≡ Err (Status.BadLine 0) → RejectsInput (I.left input.old) (I.left input.new) }
-    ensures line { IfErr result (TellsLine 0) }
+    ensures bad_line { (line : ℕ) → result ≡ Err (Status.BadLine line)
+        → MeetsFault (fault.BadLine line) (I.left input.old) (I.left input.new) }
+    ensures limit { (line : ℕ) → result ≡ Err (Status.Limit line)
+        → MeetsFault (fault.Limit line) (I.left input.old) (I.left input.new) }
+    ensures no_log { result ≡ Err Status.NoLog → HasNoLog (I.left input.old) (I.left input.new) }
     ensures early { IfErr result IsEarly }
 {
     let Some(command) = command(words) else {
@@ -61,59 +67,58 @@ pub fn prepare<I: Source>(
 
 /// The plan with room for its replies and its report.
 fn with_room(alloc: Global, plan: Plan, calls_shown: bool) -> Result<Prepared, Host>
-    requires alone { IsAlone plan }
-    requires few { op_count plan.logs < 2 ^ 32 }
+    requires few { length plan.logs ≤ 16 }
+    requires short { op_count plan.logs ≤ 1000000 }
     ensures plan { IfOk result (λ run. run.plan ≡ plan) }
     ensures calls { IfOk result (λ run. run.calls_shown ≡ calls_shown) }
+    ensures room { IfOk result (λ run. HasRoom run.room run.plan) }
 {
-    let Ok(replies) = Vec::with_capacity(alloc, op_number(&plan)) else {
-        return Err(Host);
-    };
+    let room = Room::for_plan(alloc, &plan)?;
     let Ok(text) = Vec::with_capacity(alloc, report_room(&plan, calls_shown)) else {
         return Err(Host);
     };
     Ok(Prepared {
         plan,
         calls_shown,
-        replies,
+        room,
         text,
     })
 }
 
-/// How many ops a plan of one log has.
-pub fn op_number(plan: &Plan) -> usize
-    requires alone { IsAlone plan.now }
-    ensures { result ≡ op_count plan.now.logs }
-{
-    let [log] = plan.logs.as_slice() else {
-        unreachable!();
-    };
-    log.len()
-}
-
-/// The plan of an input in the first form.
+/// The plan of the logs of an input.
 fn planned_input<I: Source>(alloc: Global, input: &mut I) -> Result<Plan, Status>
     ensures plan { IfOk result (PlansInput (I.left input.old) (I.left input.new)) }
-    ensures alone { IfOk result IsAlone }
-    ensures few { IfOk result (λ plan. op_count plan.logs < 2 ^ 32) }
-    ensures lone { IfOk result (λ plan. All IsLone plan.logs) }
+    ensures sound { IfOk result IsSound }
+    ensures few { IfOk result (λ plan. length plan.logs ≤ 16) }
+    ensures short { IfOk result (λ plan. op_count plan.logs ≤ 1000000) }
 
     ensures read { result ≡ Err Status.ReadFault → Rose (I.faults input.old) (I.faults input.new) }
+    ensures bad_line { (line : ℕ) → result ≡ Err (Status.BadLine line)
+        → MeetsFault (fault.BadLine line) (I.left input.old) (I.left input.new) }
+    ensures limit { (line : ℕ) → result ≡ Err (Status.Limit line)
+        → MeetsFault (fault.Limit line) (I.left input.old) (I.left input.new) }
+    ensures no_log { result ≡ Err Status.NoLog → HasNoLog (I.left input.old) (I.left input.new) }
     ensures kind { IfErr result IsInputFault }
-    ensures other { result ≡ Err (Status.BadLine 0) → RejectsInput (I.left input.old) (I.left input.new) }
 {
-    let logs = match read_first(alloc, input) {
+    let logs = match read_logs(alloc, input) {
         Ok(logs) => logs,
-        Err(FirstFault::Read) => return Err(Status::ReadFault),
-        Err(FirstFault::NotFirst) => return Err(Status::BadLine(0)),
-        Err(FirstFault::Host) => return Err(Status::Host),
+        Err(fault) => return Err(status_of(fault)),
     };
-    let [log] = logs.logs.as_slice() else {
-        unreachable!();
-    };
-    match first_plan(alloc, log.lines.as_slice()) {
-        Ok(Some(plan)) => Ok(plan),
-        Ok(None) => Err(Status::BadLine(0)),
+    match plan(alloc, &logs) {
+        Ok(plan) => Ok(plan),
         Err(_) => Err(Status::Host),
+    }
+}
+
+/// The status that tells of a fault of the input.
+fn status_of(fault: LogFault) -> Status
+    ensures { result ≡ told_by fault }
+{
+    match fault {
+        LogFault::Read => Status::ReadFault,
+        LogFault::BadLine(line) => Status::BadLine(line),
+        LogFault::Limit(line) => Status::Limit(line),
+        LogFault::NoLog => Status::NoLog,
+        LogFault::Host => Status::Host,
     }
 }

@@ -1,9 +1,9 @@
-ghost use Rattle.std.specs.Prelude.{◌≡◌, ◌≤◌, ◌*◌, [], All, length, sum_by, vec_capacity};
-ghost use Rattle.ng_replay.specs.Lone.{IsLone};
+ghost use Rattle.std.specs.Prelude.{◌≡◌, ◌≤◌, ◌*◌, [], length, sum_by};
+ghost use Rattle.ng_plan.specs.Sound.{IsSound};
+ghost use Rattle.ng_replay.specs.Room.{HasRoom};
 ghost use Rattle.ng_replay.specs.Serving.{counts_of};
 ghost use Rattle.ng_terms.specs.Calls.{op_count};
 ghost use Rattle.ng_terms.specs.Causes.{Rose};
-ghost use Rattle.mng.specs.Inputs.{IsAlone};
 ghost use Rattle.mng.specs.Statuses.{IsLate};
 ghost use Rattle.mng.specs.Tool.{Accounts, Ends};
 
@@ -11,7 +11,7 @@ use crate::prepare::Prepared;
 use crate::status::Status;
 use ng_mapper::Mapper;
 use ng_mtrace::{Failed, Sink, write_all};
-use ng_replay::serial_alone;
+use ng_replay::{Room, serial};
 use ng_report::render;
 use ng_terms::{Items, Mode, Plan, Reply};
 use plain_heap::PlainHeap;
@@ -24,8 +24,8 @@ const PLAIN: Mode = Mode {
 
 /// Does the ops of a plan on a heap that had no call yet, and writes the report. It takes no memory.
 pub fn run<O: Sink, M: Mapper>(prepared: Prepared, heap: PlainHeap<M>, out: &mut O) -> (Status, M)
-    requires alone { IsAlone prepared.plan }
-    requires lone { All IsLone prepared.plan.logs }
+    requires sound { IsSound prepared.plan }
+    requires room { HasRoom prepared.room prepared.plan }
     requires history { heap.history ≡ [] }
     requires spare { 2 * op_count prepared.plan.logs ≤ heap.spare }
     requires before { heap.before ≡ heap.now.count }
@@ -38,35 +38,36 @@ pub fn run<O: Sink, M: Mapper>(prepared: Prepared, heap: PlainHeap<M>, out: &mut
     let Prepared {
         plan,
         calls_shown,
-        mut replies,
+        room,
         mut text,
     } = prepared;
-    let mapper = serve(&plan, heap, &mut replies);
-    let replies = [Items::from_vec(replies)];
+    let (replies, mapper) = serve(&plan, heap, room);
     let pages = mapper.live_pages();
-    render(&plan, PLAIN, calls_shown, &replies, pages, &mut text);
+    render(
+        &plan,
+        PLAIN,
+        calls_shown,
+        replies.as_slice(),
+        pages,
+        &mut text,
+    );
     match write_all(out, text.as_slice()) {
         Ok(()) => (Status::Done, mapper),
         Err(Failed) => (Status::WriteFault, mapper),
     }
 }
 
-/// Does the ops of a plan of one log, and ends the heap.
-fn serve<M: Mapper>(plan: &Plan, heap: PlainHeap<M>, replies: &mut Vec<Reply>) -> M
-    requires alone { IsAlone plan.now }
-    requires lone { All IsLone plan.now.logs }
+/// Does the ops of a plan, and ends the heap.
+fn serve<M: Mapper>(plan: &Plan, heap: PlainHeap<M>, room: Room) -> (Vec<Items<Reply>>, M)
+    requires sound { IsSound plan.now }
+    requires few { length plan.now.logs ≤ 16 }
+    requires room { HasRoom room plan.now }
     requires history { heap.history ≡ [] }
     requires spare { 2 * op_count plan.now.logs ≤ heap.spare }
     requires before { heap.before ≡ heap.now.count }
-    requires empty { replies.old.items ≡ [] }
-    requires room { op_count plan.now.logs ≤ vec_capacity replies.old }
-    ensures account { Accounts plan.now heap.span.size (counts_of heap.now) (counts_of (M.refused result)) replies.new.items }
-    ensures replies { length replies.new.items ≡ op_count plan.now.logs }
+    ensures account { Accounts plan.now heap.span.size (counts_of heap.now) (counts_of (M.refused result.1)) result.0.items }
 {
-    let [log] = plan.logs.as_slice() else {
-        unreachable!();
-    };
     let mut heap = heap;
-    serial_alone(&mut heap, 1, log.as_slice(), replies);
-    heap.close()
+    let replies = serial(&mut heap, plan, room);
+    (replies, heap.close())
 }

@@ -13,8 +13,12 @@ pub enum Status {
     Usage,
     /// A read of the input failed.
     ReadFault,
-    /// The line with this number isn't a log line. 0 stands for the whole input.
+    /// The line with this number, from 1, is in a section and isn't a log line.
     BadLine(u64),
+    /// The line with this number, from 1, begins a 17th section, is line 1,000,001, or has more than 4096 bytes.
+    Limit(u64),
+    /// The input has no section.
+    NoLog,
     /// A write of the output failed.
     WriteFault,
     /// The host has no memory left.
@@ -31,6 +35,8 @@ impl Status {
             Status::Usage => 2,
             Status::ReadFault => 3,
             Status::BadLine(_) => 4,
+            Status::Limit(_) => 5,
+            Status::NoLog => 6,
             Status::WriteFault => 7,
             Status::Host => 8,
         }
@@ -52,6 +58,8 @@ fn line_text(alloc: Global, status: &Status) -> Result<String, AllocError>
         Status::Usage => String::from_str(alloc, "mng: usage\n"),
         Status::ReadFault => String::from_str(alloc, "mng: read fault\n"),
         Status::BadLine(line) => format!(in alloc; "mng: line {line}: not a log line\n"),
+        Status::Limit(line) => format!(in alloc; "mng: line {line}: limit\n"),
+        Status::NoLog => String::from_str(alloc, "mng: no log\n"),
         Status::WriteFault => String::from_str(alloc, "mng: write fault\n"),
         Status::Host => String::from_str(alloc, "mng: no host memory\n"),
     }

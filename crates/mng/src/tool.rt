@@ -1,22 +1,25 @@
-ghost use Rattle.std.specs.Prelude.{◌≡◌, ◌↔◌, ◌*◌, ◌≤◌, ◌<◌, ◌^◌, [], sum_by};
+ghost use Rattle.std.specs.Prelude.{◌≡◌, ◌↔◌, ◌⊎◌, ◌*◌, ◌≤◌, ◌<◌, ◌^◌, ℕ, [], sum_by};
+ghost use Rattle.ng_mtrace.specs.Reads.{MeetsFault};
+ghost use Rattle.ng_mtrace.specs.declared.log_fault.LogFault.TheVariants as fault;
 ghost use Rattle.ng_terms.specs.Causes.{Rose};
-ghost use Rattle.mng.specs.Inputs.{RejectsInput};
-ghost use Rattle.mng.specs.Statuses.{IsEarly, TellsLine};
+ghost use Rattle.mng.specs.Inputs.{HasNoLog, IsInForm};
+ghost use Rattle.mng.specs.Statuses.{IsEarly};
 ghost use Rattle.mng.specs.Tool.{WritesBeginning, WritesReport};
 ghost use Rattle.ng_replay.specs.Serving.{counts_of};
 ghost use Rattle.mng.specs.Words.{texts_of, InLanguage};
 
-use crate::prepare::{op_number, prepare};
+use crate::prepare::prepare;
 use crate::run::run;
 use crate::status::Status;
 use ng_mapper::Mapper;
 use ng_mtrace::{Sink, Source};
+use ng_report::count_ops;
 use ng_terms::Host;
 use plain_heap::PlainHeap;
 use std::alloc::Global;
 
-/// Does what the words ask: `serial` replays the log of the input on a heap over the mapper, and writes the report. It
-/// answers how that ended, and hands the mapper back.
+/// Does what the words ask: `serial` replays the logs of the input in the order of their plan, on a heap over the mapper,
+/// and writes the report. It answers how that ended, and hands the mapper back.
 ///
 /// `Host` may come whenever the host has no memory left, but only before the first call of the heap.
 pub fn tool<I: Source, O: Sink, M: Mapper>(
@@ -47,10 +50,18 @@ pub fn tool<I: Source, O: Sink, M: Mapper>(
     // The causes of the other statuses.
     ensures usage { (result.0 ≡ Status.Usage) ↔ ¬ InLanguage (texts_of words.now) }
     ensures read_fault { result.0 ≡ Status.ReadFault → Rose (I.faults input.old) (I.faults input.new) }
-    ensures bad_line { result.0 ≡ Status.BadLine 0 → RejectsInput (I.left input.old) (I.left input.new) }
-    ensures line { TellsLine 0 result.0 }
+    ensures bad_line { (line : ℕ) → result.0 ≡ Status.BadLine line
+        → MeetsFault (fault.BadLine line) (I.left input.old) (I.left input.new) }
+    ensures limit { (line : ℕ) → result.0 ≡ Status.Limit line
+        → MeetsFault (fault.Limit line) (I.left input.old) (I.left input.new) }
+    ensures no_log { result.0 ≡ Status.NoLog → HasNoLog (I.left input.old) (I.left input.new) }
 
-    // With them nothing was written, and the mapper is as it was.
+    // Words and an input in their languages are served, where no read, no write and no memory fails.
+    ensures complete { InLanguage (texts_of words.now) → IsInForm (I.left input.old)
+        → ¬ Rose (I.faults input.old) (I.faults input.new) → ¬ Rose (O.faults out.old) (O.faults out.new)
+        → (result.0 ≡ Status.Done) ⊎ (result.0 ≡ Status.Host) }
+
+    // With the statuses before the first heap call nothing was written, and the mapper is as it was.
     ensures nothing { IsEarly result.0 → O.written out.new ≡ O.written out.old }
     ensures handed_back { IsEarly result.0 → result.1 ≡ mapper }
 {
@@ -58,7 +69,7 @@ pub fn tool<I: Source, O: Sink, M: Mapper>(
         Ok(prepared) => prepared,
         Err(status) => return (status, mapper),
     };
-    let entries = 2 * op_number(&prepared.plan);
+    let entries = 2 * count_ops(prepared.plan.logs.as_slice());
     match PlainHeap::open(alloc, mapper, entries) {
         Ok(heap) => run(prepared, heap, out),
         Err((mapper, Host)) => (Status::Host, mapper),

@@ -9,5 +9,3 @@ pub mod Faults
 pub mod Reads
 pub mod OpenSections
 pub mod PartRead
-pub mod FirstForm
-pub mod FirstBody

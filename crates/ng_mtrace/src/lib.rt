@@ -3,8 +3,6 @@
 
 mod bytes_in;
 mod bytes_out;
-mod first;
-mod first_form;
 mod input;
 mod kind;
 mod log;
@@ -13,7 +11,6 @@ mod logs;
 mod number;
 mod output;
 mod part_read;
-mod reading;
 mod sections;
 mod stream;
 mod text;
@@ -22,14 +19,12 @@ mod writing;
 
 pub use bytes_in::BytesIn;
 pub use bytes_out::BytesOut;
-pub use first::{FirstFault, read_first};
 pub use input::Input;
 pub use log::{Line, Log, Logs};
 pub use log_fault::LogFault;
 pub use logs::read_logs;
 pub use ng_terms::Items;
 pub use output::Output;
-pub use reading::{ReadFault, read_whole};
 pub use stream::{Failed, Sink, Source};
 pub use writing::write_all;
 

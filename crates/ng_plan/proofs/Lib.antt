@@ -1,7 +1,6 @@
 pub mod ApartLemmas
+pub mod CountLemmas
 pub mod EndLemmas
-pub mod FirstLemmas
-pub mod FirstSound
 pub mod FitLemmas
 pub mod KnownLemmas
 pub mod LogLemmas

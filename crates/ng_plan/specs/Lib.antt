@@ -1,5 +1,4 @@
 pub mod Blocks
-pub mod First
 pub mod Mentions
 pub mod Numbers
 pub mod Plans

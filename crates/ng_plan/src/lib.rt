@@ -2,7 +2,6 @@
 //! next.
 #![tactic(auto)]
 
-mod first;
 mod mentions;
 mod names;
 mod numbers;
@@ -15,7 +14,6 @@ mod schedule;
 mod step;
 mod steps;
 
-pub use first::first_plan;
 pub use ng_terms::{Op, Origin, Plan};
 pub use planning::plan;
 

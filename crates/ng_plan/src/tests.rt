@@ -1,4 +1,3 @@
 //! Tables of logs and their plans.
 
-mod first;
 mod whole;

@@ -1,11 +1,11 @@
 -- Which blocks live after a give and after a take.
 use Rattle.std.proofs.lemmas.Grind.{common_steps}
-use Rattle.std.proofs.Common.{append_assoc, cond, eqb, false, map, ◌≡◌, ◌≢◌, ℕ, ◌+◌, List, [], ◌∷◌, ◌++◌, Option, Some, None, arith, refl, ap, sym, subst, rules, ◌∙◌}
+use Rattle.std.proofs.Common.{append_assoc, cond, eqb, false, map, ◌≡◌, ◌≢◌, ℕ, List, [], ◌∷◌, ◌++◌, Some, None, arith, ap, sym, subst, ◌∙◌}
 use Rattle.ng_terms.specs.declared.entry.Entry.{Entry}
 use Rattle.ng_terms.specs.declared.entry.Entry.TheVariants.{Give, Take, NoMemory, TooLarge}
 use Rattle.ng_terms.specs.declared.entry.Extent.{Extent}
 use Rattle.ng_terms.specs.Heap.{Space, IsLive, MayGive, empty, extent, without}
-use Rattle.ng_terms.specs.Histories.{Event, state_after, live_after}
+use Rattle.ng_terms.specs.Histories.{Event, live_after}
 use Rattle.ng_terms.proofs.HistoryLemmas.{state_after-push}
 use Rattle.ng_terms.proofs.LiveLemmas.{IsLive-given, IsLive-new, IsLive-without, MayGive-fresh}
 use Rattle.ng_replay.specs.Serving.{Carries}

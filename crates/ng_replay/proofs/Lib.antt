@@ -1,4 +1,10 @@
 pub mod CarryLemmas
-pub mod LoneLemmas
 pub mod AccountLemmas
-pub mod FirstLemmas
+pub mod FoundLemmas
+pub mod SourceLemmas
+pub mod TurnLemmas
+pub mod PlaceLemmas
+pub mod HeldLemmas
+pub mod BookLemmas
+pub mod ServedLemmas
+pub mod StepLemmas

@@ -1,2 +1,4 @@
+pub mod Books
 pub mod Serving
-pub mod Lone
+pub mod Room
+pub mod Serial

@@ -2,14 +2,17 @@
 #![tactic(auto)]
 
 mod heap;
-mod lone;
 mod make;
 mod op;
 mod plain;
+mod room;
+mod source;
 #[cfg(test)]
 mod tests;
+mod turns;
 
 pub use heap::SequentialHeap;
-pub use lone::serial_alone;
 pub use ng_terms::{Made, Mode, Reply};
 pub use op::do_op;
+pub use room::Room;
+pub use turns::serial;

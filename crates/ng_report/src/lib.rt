@@ -14,4 +14,4 @@ mod summary;
 mod tests;
 mod text;
 
-pub use report::{render, report_room};
+pub use report::{count_ops, render, report_room};

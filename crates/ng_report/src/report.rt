@@ -10,7 +10,8 @@ use crate::room::{OP, SUMMARY};
 use crate::summary::put_summary;
 use ng_terms::{Items, Mode, Op, Plan, Reply};
 
-fn count_ops(logs: &[Items<Op>]) -> usize
+/// How many ops all logs have.
+pub fn count_ops(logs: &[Items<Op>]) -> usize
     requires { op_count logs.now < 2 ^ 64 }
     ensures { result ≡ op_count logs.now }
 {

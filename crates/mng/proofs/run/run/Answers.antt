@@ -1,9 +1,7 @@
-use Rattle.std.proofs.Common.{◌≡◌, length, rules}
-use Rattle.ng_terms.specs.Calls.{op_count}
-use Rattle.mng.proofs.RunLemmas.{HasReplies-alone}
+use Rattle.std.proofs.Common.{◌≡◌}
+use Rattle.ng_replay.specs.Serving.{plain}
+use Rattle.ng_report.proofs.CallerLemmas.{HasReplies-from_Fits}
 use Rattle.mng.proofs.run.run.Goals as goal
 
 pub render-requires-clause-answered : goal.render-requires-clause-answered
-render-requires-clause-answered g c =
-    let count : length c.from_vec.result ≡ op_count c.args.prepared.plan.logs = search rules in
-    HasReplies-alone _ _ c.requires.alone count
+render-requires-clause-answered g c = rw c.as_slice.ensures.value (HasReplies-from_Fits _ plain _ c.serve-replies.ensures.account.account.fits)
