@@ -1,0 +1,12 @@
+pub mod Load
+pub mod Store
+pub mod Pop
+pub mod Push
+pub mod Moves
+pub mod Tell
+pub mod Cuts
+pub mod Joins
+pub mod Passing
+pub mod Open
+pub mod Settled
+pub mod Close
