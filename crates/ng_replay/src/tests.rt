@@ -1,12 +1,13 @@
-ghost use Rattle.std.specs.Prelude.{◌+◌, ◌≤◌, length};
+mod entries;
+mod history;
+mod run;
 
-use crate::{Room, do_op, serial};
+use crate::do_op;
 use ng_mapper::FirstFit;
-use ng_mtrace::{Line, Log, Logs};
-use ng_plan::plan;
-use ng_terms::{Items, Made, Op, Origin, Reply};
+use ng_mtrace::Line;
+use ng_terms::{Made, Op, Origin, Reply};
 use plain_heap::PlainHeap;
-use std::alloc::Global;
+use run::{ended, made, served};
 use std::test::Fail;
 
 const MAKE: Op = Op::Make {
@@ -52,54 +53,6 @@ fn a_move_makes_and_then_frees(rt: HostRuntime) -> Result<(), Fail> {
     );
     drop(heap.close());
     Ok(())
-}
-
-/// The replies to two logs, over a mapper of 16 pages that refuses the map calls with these numbers.
-fn served(
-    alloc: Global,
-    refuse: &[u64],
-    first: &[Line],
-    second: &[Line],
-) -> Result<Vec<Items<Reply>>, Fail>
-    requires { length first.now + length second.now ≤ 100 }
-{
-    let first = Log {
-        lines: Items::from_vec(first.to_vec(alloc)?),
-    };
-    let second = Log {
-        lines: Items::from_vec(second.to_vec(alloc)?),
-    };
-    let logs = Logs {
-        logs: Items::from_vec(vec![in alloc; first, second]?),
-    };
-    let Ok(plan) = plan(alloc, &logs) else {
-        return Err("no memory")?;
-    };
-    let [first, second] = plan.logs.as_slice() else {
-        return Err("not two logs")?;
-    };
-    if first.len() > 100 || second.len() > 100 {
-        return Err("more ops than lines")?;
-    }
-    let calls = 2 * (first.len() + second.len());
-    let Ok(room) = Room::for_plan(alloc, &plan) else {
-        return Err("no memory")?;
-    };
-    let mapper = FirstFit::new(alloc, 16, refuse.to_vec(alloc)?)?;
-    let Ok(mut heap) = PlainHeap::open(alloc, mapper, calls) else {
-        return Err("no memory")?;
-    };
-    let replies = serial(&mut heap, &plan, room);
-    drop(heap.close());
-    Ok(replies)
-}
-
-fn made(name: u64, size: u64) -> Line {
-    Line::Make { name, size }
-}
-
-fn ended(name: u64) -> Line {
-    Line::End { name }
 }
 
 #[test]
@@ -177,5 +130,34 @@ fn a_refused_block_is_absent_for_its_taker(rt: HostRuntime) -> Result<(), Fail> 
     assert_eq!(rt; replies.len(), 2);
     assert_eq!(rt; replies[0].as_slice(), [refused].as_slice());
     assert_eq!(rt; replies[1].as_slice(), [Reply::Absent].as_slice());
+    Ok(())
+}
+
+#[test]
+fn a_refused_move_leaves_its_block(rt: HostRuntime) -> Result<(), Fail> {
+    let to_itself = |size| Line::Move {
+        old: 16,
+        name: 16,
+        size,
+    };
+    let lines = [
+        to_itself(20),
+        to_itself(0x7fff_ffff_ffff_efff),
+        to_itself(0x7fff_ffff_ffff_effe),
+        ended(16),
+    ];
+    let replies = served(rt.alloc(), &[], &lines, &[])?;
+    let old = Some(0x1010);
+    let wanted = [
+        Reply::Fresh {
+            skipped: true,
+            made: Made::Given { at: 0x1010 },
+        },
+        Reply::TooLarge { old },
+        Reply::NoMemory { old, excuse: 1 },
+        Reply::Freed { at: 0x1010 },
+    ];
+    assert_eq!(rt; replies.len(), 2);
+    assert_eq!(rt; replies[0].as_slice(), wanted.as_slice());
     Ok(())
 }
