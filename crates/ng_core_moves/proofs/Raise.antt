@@ -126,7 +126,8 @@ module _ (key : Start) (ws : List ℕ) (vs : List View) (id : ℕ) (v : View) (k
     taken = refl;
     parcel = refl;
     blocks = λ b. let a = total_by-without (λ (y : Held). lives b y.block) m i v.held h found in let e : lives b h.block ≡ 0 = ap (lives b) none in omega arith;
-    idle = λ f l b. absurd (true≢false (sym leads ∙ l));
+    idle = λ f b. let r = f b in (r.0, r.1, λ l. absurd (true≢false (sym leads ∙ l)));
+    whole = λ f p. absurd (true≢false (sym leads ∙ (f p).follows));
   }
 
   desk_was : desk_of vs ≡ v.desk

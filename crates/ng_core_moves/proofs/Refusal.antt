@@ -12,7 +12,7 @@ use Rattle.ng_view.specs.declared.view.View.{View}
 use Rattle.ng_view.specs.declared.view.Start.{Start}
 use Rattle.ng_view.specs.Lists.{Among, total_by, count_of, excused}
 use Rattle.ng_terms.specs.Histories.{book_of}
-use Rattle.ng_view.specs.Hands.{IsDeskless, IsIdle, IsMoving}
+use Rattle.ng_view.specs.Hands.{IsDeskless, IsIdle, IsMoving, IsParcel, IsSingle}
 use Rattle.ng_view.specs.Classes.{IsServed}
 use Rattle.ng_view.specs.Words.{IsLawful}
 use Rattle.ng_view.specs.Views.{desk_of, booked, numbered, blocks}
@@ -98,7 +98,9 @@ module _ (key : Start) (ws : List ℕ) (vs : List View) (id : ℕ) (v : View) (k
     hands = record {
       desks = each_keep IsDeskless vs id v w here_v (λ f l. absurd (true≢false (sym leads ∙ l))) kept.hands.desks;
       moving = each_keep IsMoving vs id v w here_v (λ f. f) kept.hands.moving;
-      idle = each_keep IsIdle vs id v w here_v (λ f l b. absurd (true≢false (sym leads ∙ l))) kept.hands.idle;
+      idle = each_keep IsIdle vs id v w here_v (λ f b. let r = f b in (r.0, r.1, λ l. absurd (true≢false (sym leads ∙ l)))) kept.hands.idle;
+      whole = each_keep IsParcel vs id v w here_v (λ f p. absurd (true≢false (sym leads ∙ (f p).follows))) kept.hands.whole;
+      single = each_keep IsSingle vs id v w here_v (λ f. f) kept.hands.single;
       none = total_by-keep (numbered 0) vs id v w here_v refl ∙ kept.hands.none;
       first = subst (λ (z : Desk). 0 < z.next) (sym desk_is) (subst (λ (z : Desk). 0 < z.next) desk_was kept.hands.first);
       parcels = (let a = total_by-keep (λ u. count_of u.parcel) vs id v w here_v refl in let b = total_by-keep (λ u. u.taken) vs id v w here_v refl in let c = total_by-keep (λ u. u.sent) vs id v w here_v refl in let p = kept.hands.parcels in omega arith);

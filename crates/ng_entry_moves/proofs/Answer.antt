@@ -19,7 +19,7 @@ use Rattle.ng_view.specs.Lists.{Among, total_by, count_of, excused}
 use Rattle.ng_terms.specs.Heap.{after, empty, IsLegalStep, IsTooLarge}
 use Rattle.ng_terms.specs.Histories.{state_after}
 use Rattle.ng_view.specs.History.{space_between}
-use Rattle.ng_view.specs.Hands.{IsDeskless, IsIdle, IsMoving}
+use Rattle.ng_view.specs.Hands.{IsDeskless, IsIdle, IsMoving, IsParcel, IsSingle}
 use Rattle.ng_view.specs.Classes.{IsServed}
 use Rattle.ng_view.specs.Words.{IsLawful}
 use Rattle.ng_view.specs.Views.{desk_of, excuse_of, booked, numbered, blocks, same_extent}
@@ -31,7 +31,7 @@ use Rattle.ng_view.specs.Listing.{Listing}
 use Rattle.ng_view.specs.Steps.{answered, without_one}
 use Rattle.ng_geometry.proofs.Lists.{total_by-append, total_by-one, total_by-among, desk_same}
 use Rattle.ng_geometry.proofs.Parts.{total_by-keep, each_keep, slots_by}
-use Rattle.ng_entry_moves.proofs.Enter.{history_by, total_by-write}
+use Rattle.ng_entry_moves.proofs.Enter.{history_by, total_by-write, length-write}
 
 module _ (key : Start) (ws : List ℕ) (vs : List View) (id : ℕ) (v : View) (kept : Rule key ws vs) (here_v : get_elem? vs id ≡ some v) (k : ℕ) (mine : numbered k v ≡ 1)
     (e : Entry) (xs : List Excuse) (legal : IsLegalStep (space_between key) (state_after empty kept.history.calls) e) (same_live : (after (state_after empty kept.history.calls) e).live ≡ (state_after empty kept.history.calls).live)
@@ -79,7 +79,9 @@ module _ (key : Start) (ws : List ℕ) (vs : List View) (id : ℕ) (v : View) (k
     hands = record {
       desks = each_keep IsDeskless vs id v w here_v (λ f. f) kept.hands.desks;
       moving = each_keep IsMoving vs id v w here_v (λ f l q. absurd (let a = has_book in let z = ap (total_by (λ (y : Book). count_of (eqb y.number k))) q in omega arith)) kept.hands.moving;
-      idle = each_keep IsIdle vs id v w here_v (λ f l q. absurd (let a = has_book in let z = ap (total_by (λ (y : Book). count_of (eqb y.number k))) q in omega arith)) kept.hands.idle;
+      idle = each_keep IsIdle vs id v w here_v (λ f q. absurd (let a = has_book in let z = ap (total_by (λ (y : Book). count_of (eqb y.number k))) q in omega arith)) kept.hands.idle;
+      whole = each_keep IsParcel vs id v w here_v (λ f p. absurd (let z = ap (total_by (λ (y : Book). count_of (eqb y.number k))) (f p).bookless in let m = mine in omega arith)) kept.hands.whole;
+      single = each_keep IsSingle vs id v w here_v (λ f l. let n = length-write k e v.books in let o = f l in omega arith) kept.hands.single;
       none = numbers 0 ∙ kept.hands.none;
       first = subst (λ (z : Desk). 0 < z.next) (sym desk) kept.hands.first;
       parcels = (let x = total_by-keep (λ u. count_of u.parcel) vs id v w here_v refl in let y = total_by-keep (λ u. u.taken) vs id v w here_v refl in let z = total_by-keep (λ u. u.sent) vs id v w here_v refl in let p = kept.hands.parcels in omega arith);

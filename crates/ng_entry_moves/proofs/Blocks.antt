@@ -17,7 +17,7 @@ use Rattle.ng_view.specs.declared.view.Start.{Start}
 use Rattle.ng_view.specs.Lists.{Among, total_by, count_of, is_at, find, excused}
 use Rattle.ng_terms.specs.Heap.{extent, Apart, IsAlignment, empty}
 use Rattle.ng_view.specs.Places.{Owns}
-use Rattle.ng_view.specs.Hands.{IsDeskless, Hands, IsMoving}
+use Rattle.ng_view.specs.Hands.{IsDeskless, IsIdle, IsMoving, IsParcel, IsSingle}
 use Rattle.ng_view.specs.Classes.{IsServed}
 use Rattle.ng_view.specs.Words.{IsLawful}
 use Rattle.ng_view.specs.Views.{here, has, desk_of, excuse_of, booked, numbered, blocks, lives, same_extent}
@@ -35,7 +35,7 @@ use Rattle.ng_terms.specs.Histories.{state_after}
 use Rattle.ng_entry_moves.proofs.Histories.{same_extent-true, same_extent-self, counted, among_counts, contains-among, among-contains, without-counts, resized-counts, live-once}
 use Rattle.ng_view.specs.History.{space_between}
 use Rattle.ng_geometry.proofs.Parts.{total_by-keep, each_keep, slots_by}
-use Rattle.ng_entry_moves.proofs.Enter.{history_by, total_by-write}
+use Rattle.ng_entry_moves.proofs.Enter.{history_by, total_by-write, length-write}
 
 lives_some : (c : Extent) (b : Option Extent) → 0 < lives c b → b ≡ Some c
 lives_some c None h = absurd (omega arith)
@@ -130,7 +130,9 @@ module _ (key : Start) (ws : List ℕ) (vs : List View) (id : ℕ) (v : View) (k
           hands = record {
             desks = each_keep IsDeskless vs id v w here_v (λ f. f) kept.hands.desks;
             moving = each_keep IsMoving vs id v w here_v (λ f l q. absurd (let a = numbers_mine e in let z = ap (total_by (λ (y : Book). count_of (eqb y.number k))) q in omega arith)) kept.hands.moving;
-            idle = each_keep Rattle.ng_view.specs.Hands.IsIdle vs id v w here_v (λ f l q. absurd (let a = numbers_mine e in let z = ap (total_by (λ (y : Book). count_of (eqb y.number k))) q in omega arith)) kept.hands.idle;
+            idle = each_keep IsIdle vs id v w here_v (λ f q. absurd (let a = numbers_mine e in let z = ap (total_by (λ (y : Book). count_of (eqb y.number k))) q in omega arith)) kept.hands.idle;
+            whole = each_keep IsParcel vs id v w here_v (λ f p. absurd (let z = ap (total_by (λ (y : Book). count_of (eqb y.number k))) (f p).bookless in let m = mine in omega arith)) kept.hands.whole;
+            single = each_keep IsSingle vs id v w here_v (λ f l. let n = length-write k e v.books in let o = f l in omega arith) kept.hands.single;
             none = numbers 0 ∙ kept.hands.none;
             first = subst (λ (z : Desk). 0 < z.next) (sym d) kept.hands.first;
             parcels = (let x = total_by-keep (λ u. count_of u.parcel) vs id v w here_v refl in let y = total_by-keep (λ u. u.taken) vs id v w here_v refl in let z = total_by-keep (λ u. u.sent) vs id v w here_v refl in let p = kept.hands.parcels in omega arith);

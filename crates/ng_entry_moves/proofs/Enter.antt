@@ -1,5 +1,5 @@
 -- An entry, with the block that comes or goes with it.
-use Rattle.std.proofs.Common.{◌≡◌, ◌≢◌, ◌⊎◌, ℕ, ◌+◌, ◌≤◌, eqb, eq-eqb, cond, Bool, true, false, true≢false, List, [], ◌∷◌, ◌++◌, set, refl, sym, ap, ◌∙◌, subst, ⊎_elim, inl, inr, arith}
+use Rattle.std.proofs.Common.{◌≡◌, ◌≢◌, ◌⊎◌, ℕ, suc, ◌+◌, ◌≤◌, eqb, eq-eqb, cond, Bool, true, false, true≢false, List, [], ◌∷◌, ◌++◌, length, set, refl, sym, ap, ◌∙◌, subst, ⊎_elim, inl, inr, arith}
 use mathlib.Core.Option.{some}
 use lib.ListN.{get_elem?}
 use Rattle.std.proofs.lemmas.Bool.Decides.{nat_tests}
@@ -35,6 +35,14 @@ total_by-write g k e (b ∷ bs) x h one = by_test (total_by-write g k e bs x h) 
     by_test : (total_by (number_is k) bs ≡ 1 → total_by g (write k e bs) ≡ total_by g bs + x) → (t : Bool) → count_of t + total_by (number_is k) bs ≡ 1 → total_by g (cond t (longer e b ∷ bs) (b ∷ write k e bs)) ≡ (g b + total_by g bs) + x
     by_test ih true o = let q = h b in omega arith
     by_test ih false o = let r = ih (omega arith) in omega arith
+
+pub length-write : (k : ℕ) (e : Entry) (bs : List Book) → length (write k e bs) ≡ length bs
+length-write k e [] = refl
+length-write k e (b ∷ bs) = by_test (length-write k e bs) (eqb b.number k)
+  where
+    by_test : length (write k e bs) ≡ length bs → (t : Bool) → length (cond t (longer e b ∷ bs) (b ∷ write k e bs)) ≡ suc (length bs)
+    by_test ih true = refl
+    by_test ih false = ap suc ih
 
 no_number : (k : ℕ) (bs : List Book) (b : Book) → total_by (number_is k) bs ≤ 0 → Among b bs → b.number ≢ k
 no_number k bs b z s e = let w = total_by-among (number_is k) bs b s in let o : count_of (eqb b.number k) ≡ 1 = ap count_of (eq-eqb b.number k e) in omega arith

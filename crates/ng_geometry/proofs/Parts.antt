@@ -21,7 +21,7 @@ use Rattle.ng_view.specs.Views.{here, has, desk_of, no_desk, booked, numbered, b
 use Rattle.ng_view.specs.Slots.{Slots, IsPlace, IsPlain}
 use Rattle.ng_view.specs.Knowledge.{IsKnown, IsFree, Masks, Numbers, Noted, HasFreeCells, IsZeroAvail, IsZeroFreed, IsSetFreed}
 use Rattle.ng_view.specs.Excuses.{Excuses}
-use Rattle.ng_view.specs.Hands.{Hands, IsIdle, IsMoving, IsDeskless}
+use Rattle.ng_view.specs.Hands.{Hands, IsIdle, IsMoving, IsDeskless, HasOneBlock, IsParcel, IsSingle}
 use Rattle.ng_view.specs.History.{History}
 use Rattle.ng_view.specs.Layouts.{InArea}
 use Rattle.ng_view.specs.Listing.{Listing}
@@ -40,12 +40,16 @@ pub record Quiet (v w : View) : Type 0 where
   pub parcel : w.parcel ≡ v.parcel
   pub blocks : (b : Extent) → blocks b w ≡ blocks b v
   pub idle : IsIdle v → IsIdle w
+  pub whole : IsParcel v → IsParcel w
 
 pub total_by-keep : (f : View → ℕ) (vs : List View) (id : ℕ) (v w : View) → get_elem? vs id ≡ some v → f w ≡ f v → total_by f (set vs id w) ≡ total_by f vs
 total_by-keep f vs id v w e q = let s = total_by-set f vs id v w e in omega arith
 
 pub each_keep : (Q : View → Type 0) (vs : List View) (id : ℕ) (v w : View) → get_elem? vs id ≡ some v → (Q v → Q w) → Each vs Q → Each (set vs id w) Q
 each_keep Q vs id v w e t h = each_set Q Q vs id w (λ j u n f. h j u f) (t (h id v e))
+
+pub same_one_block : (v w : View) → w.leads ≡ v.leads → w.books ≡ v.books → w.excuses ≡ v.excuses → w.held ≡ v.held → HasOneBlock v → HasOneBlock w
+same_one_block v w leads books excuses held o = record { follows = leads ∙ o.follows; bookless = books ∙ o.bookless; excuseless = excuses ∙ o.excuseless; slot = o.slot; block = o.block; held = held ∙ o.held; live = o.live }
 
 pub quiet_excuses : (key : Start) (vs : List View) (id : ℕ) (v w : View) → get_elem? vs id ≡ some v → Quiet v w → (desk_of (set vs id w)).refusals ≡ (desk_of vs).refusals → Excuses key vs → Excuses key (set vs id w)
 quiet_excuses key vs id v w e q d x =
@@ -65,6 +69,8 @@ quiet_hands vs id v w e q d x desks moving =
       desks = desks;
       moving = moving;
       idle = each_keep IsIdle vs id v w e q.idle x.idle;
+      whole = each_keep IsParcel vs id v w e q.whole x.whole;
+      single = each_keep IsSingle vs id v w e (λ f l. subst (λ (b : List Book). length b ≤ 1) (sym q.books) (f (sym q.leads ∙ l))) x.single;
       none = keep 0 ∙ x.none;
       first = subst (λ n. 0 < n) (sym d) x.first;
       parcels =

@@ -22,14 +22,14 @@ use Rattle.ng_view.specs.declared.view.Desk.{Desk}
 use Rattle.ng_view.specs.declared.view.View.{View}
 use Rattle.ng_view.specs.declared.view.Start.{Start}
 use Rattle.ng_geometry.proofs.Lists.{desk_same, set_self, set_twice, at_now}
-use Rattle.ng_geometry.proofs.Parts.{Quiet, quiet_excuses, quiet_hands, quiet_history, slots_by, each_keep}
+use Rattle.ng_geometry.proofs.Parts.{Quiet, quiet_excuses, quiet_hands, quiet_history, same_one_block, slots_by, each_keep}
 
 module _ (key : Start) (ws : List ℕ) (vs : List View) (id : ℕ) (v : View) (kept : Rule key ws vs) (here_v : get_elem? vs id ≡ some v) (a x : ℕ) where
   abbrev w : View
   w = read v a x
 
   quiet : Quiet v w
-  quiet = record { leads = refl; books = refl; excuses = refl; sent = refl; taken = refl; parcel = refl; blocks = λ b. refl; idle = λ f. f }
+  quiet = record { leads = refl; books = refl; excuses = refl; sent = refl; taken = refl; parcel = refl; blocks = λ b. refl; idle = λ f. f; whole = λ f p. same_one_block v w refl refl refl refl (f p) }
 
   desk : desk_of (set vs id w) ≡ desk_of vs
   desk = desk_same vs id v w here_v refl refl

@@ -346,7 +346,8 @@ module _ (key : Start) (ws : List ℕ) (vs : List View) (id : ℕ) (v : View) (k
         let a = total_by-append (λ (y : Held). lives b y.block) (map (in_motion g) (select moving 32)) (without h.place.group.meta h.place.index v.held) in
         let c = map-total (λ (y : Held). lives b y.block) g (select moving 32) in let z = zeros (select moving 32) in
         let e = total_by-without (λ (y : Held). lives b y.block) h.place.group.meta h.place.index v.held h found in let n : lives b h.block ≡ 0 = ap (lives b) none in omega arith;
-    idle = λ f l b. absurd (true≢false (sym leads ∙ l));
+    idle = λ f b. let r = f b in (r.0, r.1, λ l. absurd (true≢false (sym leads ∙ l)));
+    whole = λ f p. absurd (true≢false (sym leads ∙ (f p).follows));
   }
 
   -- each entry afterwards is a new slot, or was there

@@ -297,7 +297,8 @@ module _ (key : Start) (ws : List ℕ) (vs : List View) (id : ℕ) (v : View) (k
     taken = refl;
     parcel = refl;
     blocks = λ b. let a = total_by-append (λ (y : Held). lives b y.block) (map (in_motion g) (select moving 32)) v.held in let c = map-total (λ (y : Held). lives b y.block) g (select moving 32) in let z = zeros (select moving 32) in omega arith;
-    idle = λ f l b. absurd (true≢false (sym leads ∙ l));
+    idle = λ f b. let r = f b in (r.0, r.1, λ l. absurd (true≢false (sym leads ∙ l)));
+    whole = λ f p. absurd (true≢false (sym leads ∙ (f p).follows));
   }
 
   pub publishes : Rule key ws' (set vs id w)

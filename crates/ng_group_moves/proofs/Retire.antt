@@ -205,7 +205,8 @@ module _ (key : Start) (ws : List ℕ) (vs : List View) (id : ℕ) (v : View) (k
     taken = refl;
     parcel = refl;
     blocks = λ b. let a = total_by-append (λ (y : Held). lives b y.block) back (outside m v.held) in let c = outside-total (λ (y : Held). lives b y.block) m v.held (λ h s q. ap (lives b) (blockless h s q)) in let z = none_lives back fresh b in omega arith;
-    idle = λ f l b. absurd (true≢false (sym leads ∙ l));
+    idle = λ f b. let r = f b in (r.0, r.1, λ l. absurd (true≢false (sym leads ∙ l)));
+    whole = λ f p. absurd (true≢false (sym leads ∙ (f p).follows));
   }
 
   known : (j : ℕ) (u : View) (h : Held) → get_elem? vs j ≡ some u → Among h u.held → IsKnown ws' h

@@ -114,7 +114,8 @@ module _ (key : Start) (ws : List ℕ) (vs : List View) (id : ℕ) (v : View) (k
     taken = refl;
     parcel = refl;
     blocks = λ b. let a = total_by-append (λ (y : Held). lives b y.block) (map (in_motion g) (select cleared 32)) v.held in let e = map-total (λ (y : Held). lives b y.block) g (select cleared 32) in let z = zeros (select cleared 32) in omega arith;
-    idle = λ f l b. absurd (true≢false (sym leads ∙ l));
+    idle = λ f b. let r = f b in (r.0, r.1, λ l. absurd (true≢false (sym leads ∙ l)));
+    whole = λ f p. absurd (true≢false (sym leads ∙ (f p).follows));
   }
 
   desk_was : desk_of vs ≡ v.desk

@@ -51,12 +51,12 @@ module _ (key : Start) (ws : List ℕ) (vs : List View) (id : ℕ) (v : View) (k
 
   no_parcel : (j : ℕ) (u : View) → j ≢ id → get_elem? vs j ≡ some u → u.parcel ≡ false
   no_parcel j u n e =
-      let sent = only (λ x. x.sent) vs id v here_v (λ i x m s. (kept.hands.idle i x s (follows i x m s) (bookless i x m s)).0) in
-      let taken = only (λ x. x.taken) vs id v here_v (λ i x m s. (kept.hands.idle i x s (follows i x m s) (bookless i x m s)).1) in
+      let sent = only (λ x. x.sent) vs id v here_v (λ i x m s. (kept.hands.idle i x s (bookless i x m s)).0) in
+      let taken = only (λ x. x.taken) vs id v here_v (λ i x m s. (kept.hands.idle i x s (bookless i x m s)).1) in
       count_of-zero u.parcel (let a = total_by-two (λ (x : View). count_of x.parcel) vs id j v u n here_v e in let p = kept.hands.parcels in let q = even in omega arith)
 
   empty : (j : ℕ) (u : View) → j ≢ id → get_elem? vs j ≡ some u → (u.held ≡ []) × (u.excuses ≡ [])
-  empty j u n e = (kept.hands.idle j u e (follows j u n e) (bookless j u n e)).2 (no_parcel j u n e)
+  empty j u n e = (kept.hands.idle j u e (bookless j u n e)).2 (follows j u n e) (no_parcel j u n e)
 
   -- each slot of a live group is in a mask or in this view
   pub all_slots : (m i : ℕ) → m % 4 ≡ 0 → i < 32 → marked ws m i + has m i v ≡ owed ws m i

@@ -3,6 +3,7 @@ use Rattle.std.proofs.Common.{◌≡◌, ℕ, ◌+◌, ◌<◌, ◌≤◌, true�
 use mathlib.Core.Option.{some}
 use lib.ListN.{get_elem?}
 use Rattle.std.specs.Prelude.{Some}
+use Rattle.ng_terms.specs.declared.entry.Extent.{Extent}
 use Rattle.ng_view.specs.declared.view.Held.{Held}
 use Rattle.ng_view.specs.declared.view.Nest.{Nest}
 use Rattle.ng_view.specs.declared.view.Book.{Book}
@@ -11,7 +12,7 @@ use Rattle.ng_view.specs.declared.view.View.{View}
 use Rattle.ng_view.specs.declared.view.Start.{Start}
 use Rattle.ng_view.specs.Lists.{Among, total_by, count_of, Each, find, without, excused}
 use Rattle.ng_terms.specs.Histories.{book_of}
-use Rattle.ng_view.specs.Hands.{IsDeskless, IsIdle, IsMoving}
+use Rattle.ng_view.specs.Hands.{IsDeskless, IsIdle, IsMoving, IsParcel, IsSingle}
 use Rattle.ng_view.specs.Classes.{IsServed}
 use Rattle.ng_view.specs.Words.{IsLawful}
 use Rattle.ng_view.specs.Views.{here, has, desk_of, booked, numbered, blocks, lives}
@@ -72,6 +73,8 @@ module _ (key : Start) (ws : List ℕ) (vs : List View) (id : ℕ) (v l r : View
       desks = each IsDeskless (λ f e. c.desk.0 ∙ f (sym c.leads.0 ∙ e)) (λ f e. c.desk.1) kept.hands.desks;
       moving = each IsMoving c.moving (λ f l. absurd (true≢false (sym l ∙ c.leads.1))) kept.hands.moving;
       idle = each IsIdle c.idle.0 (λ f. c.idle.1) kept.hands.idle;
+      whole = each IsParcel c.whole.0 (λ f. c.whole.1) kept.hands.whole;
+      single = each IsSingle c.single.0 (λ f. c.single.1) kept.hands.single;
       none = sums (numbered 0) (c.numbers 0) ∙ kept.hands.none;
       first = subst (λ (z : Desk). 0 < z.next) (sym desk) kept.hands.first;
       parcels = (let a = total_by-set (λ u. count_of u.parcel) vs id v l here_v in let a' = total_by-snoc (λ u. count_of u.parcel) (set vs id l) r in
@@ -88,8 +91,8 @@ module _ (key : Start) (ws : List ℕ) (vs : List View) (id : ℕ) (v l r : View
       both e = let a = c.excuses e in let b = c.booked e in omega arith
 
 -- ---- the parcel of a block
-pub cut_parcel : (v : View) (m i : ℕ) (h : Held) → (v.books ≡ [] → ⊥) → find m i v.held ≡ Some h → Cut v (split_off v m i) (parcel_of h)
-cut_parcel v m i h caller found = record {
+pub cut_parcel : (v : View) (m i : ℕ) (h : Held) → (v.books ≡ [] → ⊥) → find m i v.held ≡ Some h → (b : Extent) → h.block ≡ Some b → Cut v (split_off v m i) (parcel_of h)
+cut_parcel v m i h caller found b is = record {
   leads = (refl, refl);
   desk = (refl, refl);
   has = λ n j. let a = total_by-without (λ (y : Held). here n j y.place) m i v.held h found in omega arith;
@@ -99,7 +102,11 @@ cut_parcel v m i h caller found = record {
   booked = λ e. omega arith;
   held = λ x s. ⊎_elim (λ (t : Among x (without m i v.held)). among_without m i v.held x t) (λ (t : Among x (h ∷ [])). ⊎_elim (λ (q : x ≡ h). subst (λ y. Among y v.held) (sym q) (find_among m i v.held h found).0) (λ (q : ⊥). absurd q) t) s;
   books = λ b s. ⊎_elim (λ (t : Among b v.books). t) (λ (t : ⊥). absurd t) s;
-  idle = ((λ f l b. absurd (caller b)), (λ l b. (refl, refl, λ p. absurd (true≢false p))));
+  excuse = λ x s. ⊎_elim (λ (t : Among x v.excuses). t) (λ (t : ⊥). absurd t) s;
+  readings = refl;
+  idle = ((λ f b. absurd (caller b)), (λ b. (refl, refl, λ l p. absurd (true≢false p))));
+  whole = ((λ f p. absurd (caller (f p).bookless)), (λ p. record { follows = refl; bookless = refl; excuseless = refl; slot = h; block = b; held = refl; live = is }));
+  single = ((λ f. f), (λ l. omega arith));
   moving = λ f l b. absurd (caller b);
   parcels = omega arith;
 }

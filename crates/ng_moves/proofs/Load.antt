@@ -94,7 +94,8 @@ module _ (key : Start) (ws : List ℕ) (vs : List View) (id : ℕ) (v : View) (k
     taken = refl;
     parcel = refl;
     blocks = λ b. total_by-map (λ (y : Held). lives b y.block) (learnt a x) v.held (λ y. refl);
-    idle = λ f l b. let r = f l b in (r.0, r.1, λ p. let e = r.2 p in (ap (map (learnt a x)) e.0, e.1));
+    idle = λ f b. let r = f b in (r.0, r.1, λ l p. let e = r.2 l p in (ap (map (learnt a x)) e.0, e.1));
+    whole = λ f p. let o = f p in record { follows = o.follows; bookless = o.bookless; excuseless = o.excuseless; slot = learnt a x o.slot; block = o.block; held = ap (map (learnt a x)) o.held; live = o.live };
   }
 
   desk : desk_of (set vs id w) ≡ desk_of vs

@@ -14,7 +14,7 @@ use Rattle.ng_view.specs.declared.view.Start.{Start}
 use Rattle.ng_view.specs.Lists.{Among, total_by, count_of, Each, excused}
 use Rattle.ng_terms.specs.Histories.{book_of}
 use Rattle.ng_view.specs.Cells.{cell, tag, avail, freed, last, marked, owed}
-use Rattle.ng_view.specs.Hands.{IsDeskless, IsIdle, IsMoving}
+use Rattle.ng_view.specs.Hands.{IsDeskless, IsIdle, IsMoving, IsParcel, IsSingle}
 use Rattle.ng_view.specs.Classes.{IsServed}
 use Rattle.ng_view.specs.Words.{IsLawful}
 use Rattle.ng_view.specs.Views.{has, desk_of, booked, numbered, blocks}
@@ -87,7 +87,9 @@ opens key range = record {
   hands = record {
     desks = one IsDeskless (opener key) (λ l. absurd (true≢false l));
     moving = one IsMoving (opener key) (λ l b h s. absurd s);
-    idle = one IsIdle (opener key) (λ l b. absurd (true≢false l));
+    idle = one IsIdle (opener key) (λ b. (refl, refl, λ l. absurd (true≢false l)));
+    whole = one IsParcel (opener key) (λ p. absurd (true≢false (sym p)));
+    single = one IsSingle (opener key) (λ l. absurd (true≢false l));
     none = omega arith;
     first = omega arith;
     parcels = omega arith;
@@ -165,7 +167,9 @@ module _ (key : Start) (ws : List ℕ) (vs : List View) (id : ℕ) (v : View) (k
     hands = record {
       desks = each IsDeskless (λ f l. absurd (true≢false (sym leads ∙ l))) (λ l. refl) kept.hands.desks;
       moving = each IsMoving (λ f. f) (λ l. absurd (true≢false (sym l))) kept.hands.moving;
-      idle = each IsIdle (λ f l b. absurd (true≢false (sym leads ∙ l))) (λ l b. (refl, refl, λ p. (refl, refl))) kept.hands.idle;
+      idle = each IsIdle (λ f b. let x = f b in (x.0, x.1, λ l. absurd (true≢false (sym leads ∙ l)))) (λ b. (refl, refl, λ l p. (refl, refl))) kept.hands.idle;
+      whole = each IsParcel (λ f p. absurd (true≢false (sym leads ∙ (f p).follows))) (λ p. absurd (true≢false (sym p))) kept.hands.whole;
+      single = each IsSingle (λ f l. absurd (true≢false (sym leads ∙ l))) (λ l. omega arith) kept.hands.single;
       none = (let a = sums (numbered 0) refl in let b = kept.hands.none in let c = new_number 0 in let z : count_of (eqb k 0) ≡ 0 = ap count_of (ne_eqb k 0 not_zero) in omega arith);
       first = subst (λ (d : Desk). 0 < d.next) (sym desk_is) (omega arith);
       parcels = (let a = sums (λ u. count_of u.parcel) refl in let b = sums (λ u. u.taken) refl in let c = sums (λ u. u.sent) refl in let p = kept.hands.parcels in omega arith);

@@ -76,7 +76,7 @@ module _ (key : Start) (ws : List ℕ) (vs : List View) (id : ℕ) (v : View) (k
   page_zero = zero_meta key ws (desk_of vs).layout kept.words.lawful (nested ws vs kept.slots) m 24 x al area (omega arith) refl
 
   quiet : Quiet v w
-  quiet = record { leads = refl; books = refl; excuses = refl; sent = refl; taken = refl; parcel = refl; blocks = λ b. omega arith; idle = λ f l b. absurd (caller b) }
+  quiet = record { leads = refl; books = refl; excuses = refl; sent = refl; taken = refl; parcel = refl; blocks = λ b. omega arith; idle = λ f b. absurd (caller b); whole = λ f p. absurd (caller (f p).bookless) }
 
   desk : desk_of (set vs id w) ≡ desk_of vs
   desk = desk_same vs id v w here_v refl refl

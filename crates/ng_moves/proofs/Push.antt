@@ -1,5 +1,5 @@
 -- A push keeps the rule.
-use Rattle.std.proofs.Common.{◌≡◌, ◌≢◌, ℕ, ◌+◌, ◌/◌, ◌%◌, ◌<◌, ◌≤◌, eqb, ne_eqb, eq-eqb, ◌&&◌, true, List, set, refl, sym, ap, ◌∙◌, subst, ⊎_elim, inr, arith}
+use Rattle.std.proofs.Common.{◌≡◌, ◌≢◌, ℕ, ◌+◌, ◌/◌, ◌%◌, ◌<◌, ◌≤◌, eqb, ne_eqb, eq-eqb, ◌&&◌, true, List, [], ◌∷◌, set, refl, sym, ap, ◌∙◌, subst, ⊎_elim, inl, inr, arith}
 use mathlib.Core.Option.{some}
 use lib.ListN.{get_elem?}
 use Rattle.std.specs.Prelude.{Some, None}
@@ -7,6 +7,7 @@ use Rattle.std.specs.Int.{bit_at, w32, trailing_zeros}
 use Rattle.std.proofs.lemmas.Bool.{cases_eq}
 use Rattle.std.proofs.lemmas.Nat.Bits.{bit_at-trailing_zeros, bit_at-lt}
 use Rattle.ng_view.specs.declared.view.Group.{Group}
+use Rattle.ng_terms.specs.declared.entry.Extent.{Extent}
 use Rattle.ng_view.specs.declared.view.Held.{Held}
 use Rattle.ng_view.specs.declared.view.Desk.{Desk}
 use Rattle.ng_view.specs.declared.view.View.{View}
@@ -132,8 +133,13 @@ module _ (key : Start) (ws : List ℕ) (vs : List View) (id : ℕ) (v : View) (k
     taken = refl;
     parcel = refl;
     blocks = λ b. let a = total_by-without (λ (y : Held). lives b y.block) m i v.held h found in let c : lives b h.block ≡ 0 = ap (lives b) none in omega arith;
-    idle = λ f l b. let r = f l b in (r.0, r.1, λ p. let e = r.2 p in (ap (without m i) e.0, e.1));
+    idle = λ f b. let r = f b in (r.0, r.1, λ l p. let e = r.2 l p in (ap (without m i) e.0, e.1));
+    whole = λ f p. let o = f p in absurd (blocked o.slot o.block (subst (Among h) o.held (find_among m i v.held h found).0) o.live);
   }
+    where
+      blocked : (y : Held) (b : Extent) → Among h (y ∷ []) → y.block ≡ Some b → ⊥
+      blocked y b (inl e) live = let q : None ≡ Some b = sym none ∙ ap (λ (z : Held). z.block) e ∙ live in cc
+      blocked y b (inr s) live = s
 
   desk : desk_of (set vs id w) ≡ desk_of vs
   desk = desk_same vs id v w here_v refl refl

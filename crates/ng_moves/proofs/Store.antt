@@ -5,6 +5,7 @@ use lib.ListN.{get_elem?}
 use Rattle.std.specs.Prelude.{Some, None}
 use Rattle.std.proofs.lemmas.Bool.{cases_lt}
 use Rattle.ng_view.specs.declared.view.Place.{Place}
+use Rattle.ng_terms.specs.declared.entry.Extent.{Extent}
 use Rattle.ng_view.specs.declared.view.Held.{Held}
 use Rattle.ng_view.specs.declared.view.Desk.{Desk}
 use Rattle.ng_view.specs.declared.view.Run.{Run}
@@ -39,6 +40,14 @@ forgot a (c ∷ cs) b y s = by_test (forgot a cs b y) (eqb c.0 a) refl s
     by_test ih true is s = let r = ih s in (inr r.0, r.1)
     by_test ih false is (inl e) = (inl e, λ q. true≢false (sym (eq-eqb c.0 a (sym (ap (λ (p : ℕ × ℕ). p.0) e) ∙ q)) ∙ is))
     by_test ih false is (inr s) = let r = ih s in (inr r.0, r.1)
+
+-- a store leaves one slot one slot, with its block
+edited_one : (m i a x : ℕ) (h : Held) (b : Extent) → h.block ≡ Some b → (y : Held) × (edit m i (wrote a x) (h ∷ []) ≡ y ∷ []) × (y.block ≡ Some b)
+edited_one m i a x h b live = by_test (is_at m i h.place)
+  where
+    by_test : (t : Bool) → (y : Held) × (cond t (wrote a x h ∷ []) (h ∷ []) ≡ y ∷ []) × (y.block ≡ Some b)
+    by_test true = (wrote a x h, refl, live)
+    by_test false = (h, refl, live)
 
 module _ (key : Start) (ws : List ℕ) (vs : List View) (id : ℕ) (v : View) (kept : Rule key ws vs) (here_v : get_elem? vs id ≡ some v)
     (m i a x : ℕ) (h : Held) (found : find m i v.held ≡ Some h) (own : Owns h.place a) (al : a % 4 ≡ 0) (fits : x < 4294967296) (low : a + 4 ≡ slot_start h.place → x % 256 ≡ 0) (sets : IsSet (wrote a x h) h.block) where
@@ -92,7 +101,8 @@ module _ (key : Start) (ws : List ℕ) (vs : List View) (id : ℕ) (v : View) (k
     taken = refl;
     parcel = refl;
     blocks = λ b. let e = total_by-edit (λ (y : Held). lives b y.block) m i (wrote a x) v.held h found in omega arith;
-    idle = λ f l b. let r = f l b in (r.0, r.1, λ p. let e = r.2 p in (ap (edit m i (wrote a x)) e.0, e.1));
+    idle = λ f b. let r = f b in (r.0, r.1, λ l p. let e = r.2 l p in (ap (edit m i (wrote a x)) e.0, e.1));
+    whole = λ f p. let o = f p in let r = edited_one m i a x o.slot o.block o.live in record { follows = o.follows; bookless = o.bookless; excuseless = o.excuseless; slot = r.0; block = o.block; held = ap (edit m i (wrote a x)) o.held ∙ r.1; live = r.2 };
   }
 
   desk : desk_of (set vs id w) ≡ desk_of vs

@@ -54,7 +54,7 @@ module _ (key : Start) (ws : List ℕ) (vs : List View) (id : ℕ) (v : View) (k
   desk_is = (desk_lead vs id v w here_v leads kept.hands.leaders leads).1
 
   quiet : Quiet v w
-  quiet = record { leads = refl; books = refl; excuses = refl; sent = refl; taken = refl; parcel = refl; blocks = λ b. refl; idle = λ f l b. absurd (true≢false (sym leads ∙ l)) }
+  quiet = record { leads = refl; books = refl; excuses = refl; sent = refl; taken = refl; parcel = refl; blocks = λ b. refl; idle = λ f b. let r = f b in (r.0, r.1, λ l. absurd (true≢false (sym leads ∙ l))); whole = λ f p. absurd (true≢false (sym leads ∙ (f p).follows)) }
 
   words_was : IsLawful key ws d
   words_was = subst (λ (z : Desk). IsLawful key ws z.layout) desk_was kept.words.lawful

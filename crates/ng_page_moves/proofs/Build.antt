@@ -74,7 +74,7 @@ module _ (key : Start) (ws : List ℕ) (vs : List View) (id : ℕ) (v : View) (k
   page_zero = zero_home key ws (desk_of vs).layout kept.words.lawful (nested ws vs kept.slots) a x al home
 
   quiet : Quiet v w
-  quiet = record { leads = refl; books = refl; excuses = refl; sent = refl; taken = refl; parcel = refl; blocks = λ b. refl; idle = λ f l b. absurd (true≢false (sym leads ∙ l)) }
+  quiet = record { leads = refl; books = refl; excuses = refl; sent = refl; taken = refl; parcel = refl; blocks = λ b. refl; idle = λ f b. let r = f b in (r.0, r.1, λ l. absurd (true≢false (sym leads ∙ l))); whole = λ f p. absurd (true≢false (sym leads ∙ (f p).follows)) }
 
   -- a slot's own cell is another
   known : (j : ℕ) (u : View) (h : Held) → get_elem? vs j ≡ some u → Among h u.held → IsKnown ws' h

@@ -137,7 +137,7 @@ module _ (key : Start) (ws : List ℕ) (vs : List View) (id : ℕ) (v : View) (k
       (cases_lt 0 (tag ws n))
 
   quiet : Quiet v w
-  quiet = record { leads = refl; books = refl; excuses = refl; sent = refl; taken = refl; parcel = refl; blocks = λ b. refl; idle = λ f l b. absurd (true≢false (sym leads ∙ l)) }
+  quiet = record { leads = refl; books = refl; excuses = refl; sent = refl; taken = refl; parcel = refl; blocks = λ b. refl; idle = λ f b. let r = f b in (r.0, r.1, λ l. absurd (true≢false (sym leads ∙ l))); whole = λ f p. absurd (true≢false (sym leads ∙ (f p).follows)) }
 
   free : (b : ℕ) → IsFree ws d b → cell ws2 b ≡ cell ws b
   free b f = off b f.0 (⊎_elim

@@ -63,6 +63,9 @@ IsPut h p a o = (p % max a 16 ≡ 0) × (slot_start h.place + 16 * o ≤ p)
 abbrev pub field_of : ℕ → Option ℕ
 field_of x = cond (leb 1 (x / 256 % 256)) (Some (x / 65536)) None
 
+-- a block of n with align a was put at p, by the header cell x that was found at the start
 pub record IsGiven (h : Held) (p n a x counter : ℕ) : Type 0 where
+  -- the slot has room for the request, with what the align may take of it
+  pub fits : n + max a 16 ≤ room h.place.group + 12
   pub framed : IsFramed h p n
   pub put : IsPut h p a (cycle (field_of x) (slack_of h ((n + max a 16) - 16)) counter)

@@ -1,0 +1,41 @@
+-- Loads, and entries that are legal at any time.
+use Rattle.std.proofs.Common.{◌≡◌, ℕ, ◌+◌, ◌/◌, ◌%◌, [], ◌∷◌, ◌++◌, List, cond, eqb, eq-eqb, refl, ap, ◌∙◌, arith}
+use Rattle.ng_terms.specs.declared.entry.Entry.{Entry}
+use Rattle.ng_terms.specs.declared.entry.Entry.TheVariants.{Give, Take, Resize, NoMemory, TooLarge, BadAlign, Refused}
+use Rattle.ng_view.specs.declared.view.Book.{Book}
+use Rattle.ng_view.specs.declared.view.View.{View}
+use Rattle.ng_view.specs.declared.view.Start.{Start}
+use Rattle.ng_view.specs.Lists.{total_by, count_of}
+use Rattle.ng_view.specs.May.{May}
+use Rattle.ng_view.specs.Tells.{Tells}
+use Rattle.ng_view.specs.Views.{numbered}
+use Rattle.ng_view.specs.Steps.{loaded, entered, read, write}
+use Rattle.ng_moves.proofs.Moves.{loads_may}
+use Rattle.ng_moves.proofs.Tell.{tells}
+use Rattle.ng_entry_moves.proofs.EnterMoves.{too_large_may, bad_align_may, refused_may}
+use Rattle.ng_space.proofs.Placing.{lies_in}
+use Rattle.ng_space.specs.Placed.{ArePlaced}
+use Rattle.ng_space.specs.Entries.{IsLegalAnytime}
+
+-- a load, with what it tells
+pub loads_and_tells : (key : Start) (id : ℕ) (v : View) (a : ℕ) → a % 4 ≡ 0 → May key id v (a / 4) (λ n. n) (λ v n w. (w ≡ loaded v a n) × Tells key v a n × ArePlaced key v)
+loads_and_tells key id v a al ws vs kept at fits =
+    let step = loads_may key id v a al ws vs kept at fits in
+    (step.0, step.1, (step.2, tells key ws vs id v kept at a al, λ h s. lies_in key ws vs id v kept at h s))
+
+-- the number of a view with one book
+pub one_number : (v : View) (k : ℕ) (es : List Entry) → v.books ≡ record { number = k; entries = es } ∷ [] → numbered k v ≡ 1
+one_number v k es own = ap (total_by (λ (b : Book). count_of (eqb b.number k))) own ∙ (let one : count_of (eqb k k) ≡ 1 = ap count_of (eq-eqb k k refl) in let e : count_of (eqb k k) + 0 ≡ 1 = omega arith in e)
+
+pub enters_anytime : (key : Start) (id : ℕ) (v : View) (k : ℕ) (e : Entry) → numbered k v ≡ 1 → IsLegalAnytime e → May key id v (0 / 4) (λ n. n) (λ v n w. w ≡ read (entered v k e) 0 n)
+enters_anytime key id v k (Give n a p) own legal = absurd legal
+enters_anytime key id v k (Take p) own legal = absurd legal
+enters_anytime key id v k (Resize p n) own legal = absurd legal
+enters_anytime key id v k (NoMemory n x) own legal = absurd legal
+enters_anytime key id v k (TooLarge c s a) own legal = too_large_may key id v k own c s a legal
+enters_anytime key id v k (BadAlign a) own legal = bad_align_may key id v k own a legal
+enters_anytime key id v k (Refused p name) own legal = refused_may key id v k own p name legal.0 legal.1
+
+-- the one book after an entry
+pub one_book : (bs : List Book) (k : ℕ) (es : List Entry) (e : Entry) → bs ≡ record { number = k; entries = es } ∷ [] → write k e bs ≡ record { number = k; entries = es ++ e ∷ [] } ∷ []
+one_book bs k es e own = ap (write k e) own ∙ ap (λ t. cond t (record { number = k; entries = es ++ e ∷ [] } ∷ []) (record { number = k; entries = es } ∷ [])) (eq-eqb k k refl)

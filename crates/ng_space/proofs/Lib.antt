@@ -1,0 +1,12 @@
+pub mod Books
+pub mod Allowed
+pub mod Opening
+pub mod Entering
+pub mod Hosting
+pub mod Ended
+pub mod Gathering
+pub mod Closed
+pub mod Placing
+pub mod Reading
+pub mod Holding
+pub mod Counting

@@ -1,0 +1,23 @@
+use Rattle.std.proofs.Common.{ap, subst, ◌∙◌}
+use Rattle.ng_view.specs.Steps.{loaded}
+use Rattle.ng_view.specs.Tells.{Tells}
+use Rattle.ng_view.specs.declared.view.View.{View}
+use Rattle.ng_space.specs.Callers.{Caller}
+use Rattle.ng_space.specs.Placed.{ArePlaced}
+use Rattle.ng_space.proofs.Holding.{has_loaded}
+use Rattle.ng_space.proofs.Entering.{loads_and_tells}
+use Rattle.ng_space.proofs.space.Space.load.Goals as goal
+
+pub load_told-requires-clause-may : goal.load_told-requires-clause-may
+load_told-requires-clause-may g c = loads_and_tells _ _ _ _ c.requires.cell
+
+pub returns-clause-told : goal.returns-clause-told
+returns-clause-told g c = subst (λ (v : View). Tells g.N.Name.start v c.args.addr c.load_told.result) (ap (λ (hand : Caller). hand.view) c.hand.view_is) c.load_told.ensures.told.1
+
+pub returns-clause-placed : goal.returns-clause-placed
+returns-clause-placed g c = subst (ArePlaced g.N.Name.start) (ap (λ (hand : Caller). hand.view) c.hand.view_is) c.load_told.ensures.told.2
+
+pub returns-clause-slots : goal.returns-clause-slots
+returns-clause-slots g c = λ slot has.
+    let is = c.hand.view_is in
+    has_loaded _ _ c.args.addr c.load_told.result slot (c.load_told.ensures.told.0 ∙ ap (λ (hand : Caller). loaded hand.view c.args.addr c.load_told.result) is) (ap (λ (hand : Caller). hand.number) is) has

@@ -1,0 +1,8 @@
+use Rattle.std.proofs.Common.{◌∙◌, sym, arith, ◌/◌}
+use Rattle.ng_space.proofs.Allowed.{may_allows}
+use Rattle.ng_space.proofs.space.Space.load_told.Goals as goal
+
+pub load-requires : goal.load-requires
+load-requires g c =
+    let s = c.args.self.now in let words = s.words in let inside = c.requires.inside in
+    (c.requires.fits ∙ sym s.named, omega arith, may_allows _ _ _ _ _ (c.args.addr / 4) (λ n. n) g.T.Telling.told (sym s.ruled) c.requires.may)

@@ -1,0 +1,13 @@
+pub mod Names
+pub mod Callers
+pub mod Blanks
+pub mod Insides
+pub mod Seats
+pub mod Splits
+pub mod Entries
+pub mod Closings
+pub mod Images
+pub mod Tokens
+pub mod Placed
+pub mod Masks
+pub mod Tests

@@ -1,0 +1,32 @@
+-- Where a slot lies, as the rule says of each slot that a seat has.
+use Rattle.std.specs.Prelude.{◌≡◌, ℕ, ◌+◌, ◌-◌, ◌*◌, ◌<◌, ◌≤◌}
+use Rattle.ng_class.specs.Slot.{IsGroupClass}
+use Rattle.ng_meta.specs.Place.{IsMetaPlace}
+use Rattle.ng_view.specs.Conditions.{HasFlags}
+use Rattle.ng_view.specs.Lists.{Among}
+use Rattle.ng_view.specs.Places.{reach}
+use Rattle.ng_view.specs.declared.view.Held.{Held}
+use Rattle.ng_view.specs.declared.view.Place.{Place}
+use Rattle.ng_view.specs.declared.view.Start.{Start}
+use Rattle.ng_view.specs.declared.view.View.{View}
+
+-- the slot's group is of a class of slots, its meta stands in the space, and so do its slots
+pub record LiesIn (key : Start) (p : Place) : Type 0 where
+  pub index : p.index ≤ p.group.last
+  pub many : p.group.last < 32
+  pub live : 0 < p.group.tag
+  pub class : IsGroupClass (p.group.tag - 1) p.group.last p.group.maplen
+  pub few : p.group.maplen ≤ 16384
+  pub meta : IsMetaPlace p.group.meta key.pages
+  pub inside : p.group.base + reach p.group ≤ 4096 * key.pages
+
+-- and so of each slot in a view
+abbrev pub ArePlaced : Start → View → Type 0
+ArePlaced key v = (h : Held) → Among h v.held → LiesIn key h.place
+
+-- the words of a meta's mem and flags are those of the place's group, and it is the slot of that index
+pub record IsRead (p : Place) (meta index base flags : ℕ) : Type 0 where
+  pub meta_is : p.group.meta ≡ meta
+  pub index_is : p.index ≡ index
+  pub base_is : p.group.base ≡ base
+  pub flags_are : HasFlags p.group flags

@@ -1,0 +1,28 @@
+//! The space of a heap: its cells, the hands that step on them, and the seat under the lock.
+#![tactic(auto)]
+
+mod blank;
+mod close;
+mod hand;
+mod image;
+mod load;
+mod lock;
+mod mask_step;
+mod name;
+mod rule;
+mod slot;
+mod space;
+mod step;
+
+pub use blank::Blank;
+pub use hand::Hand;
+pub use image::Image;
+pub use lock::LockSeat;
+pub use name::Name;
+pub use ng_history::{Book, Entry, Host};
+pub use ng_view::view::Start;
+pub use slot::Slot;
+pub use space::Space;
+
+#[cfg(test)]
+mod tests;
