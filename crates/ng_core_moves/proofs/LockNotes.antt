@@ -4,6 +4,7 @@ use mathlib.Core.Option.{some}
 use lib.ListN.{get_elem?}
 use Rattle.std.specs.Int.{bit_at}
 use Rattle.std.proofs.lemmas.Bool.{cases_lt}
+use Rattle.std.proofs.lemmas.Nat.Bits.{bit_at_cat_low}
 use Rattle.ng_view.specs.declared.view.Group.{Group}
 use Rattle.ng_view.specs.declared.view.Run.{Run}
 use Rattle.ng_view.specs.declared.view.Desk.{Desk}
@@ -15,14 +16,14 @@ use Rattle.ng_view.specs.Views.{desk_of}
 use Rattle.ng_view.specs.Rule.{Rule}
 use Rattle.ng_view.specs.Layouts.{Inside}
 use Rattle.ng_meta.specs.Place.{IsMetaPlace}
-use Rattle.ng_view.specs.Knowledge.{Noted, IsZeroFreed, IsSetFreed}
+use Rattle.ng_view.specs.Knowledge.{Noted, IsZeroAvail, IsZeroFreed, IsSetFreed}
 use Rattle.ng_view.specs.Listing.{Listing}
 use Rattle.ng_view.specs.Steps.{read}
-use Rattle.ng_view.specs.LockSteps.{refused, run_noted, blank_cells, run_left, cells_off, ring_read, read_bits, has_number, others, active_set, counter_set}
+use Rattle.ng_view.specs.LockSteps.{refused, run_noted, blank_cells, run_left, cells_off, ring_read, avail_read, read_bits, has_number, others, active_set, counter_set}
 use Rattle.ng_view.specs.May.{May}
 use Rattle.ng_geometry.proofs.Lists.{desk_lead}
 use Rattle.ng_geometry.proofs.Facts.{marked_live}
-use Rattle.std.specs.Prelude.{map, ◌&&◌, leb}
+use Rattle.std.specs.Prelude.{map, ◌&&◌, ◌^◌, leb, set}
 use Rattle.std.proofs.lemmas.Bool.Decides.{nat_tests}
 use Rattle.ng_view.specs.declared.view.Excuse.{Excuse}
 use Rattle.ng_geometry.proofs.Lists.{among_append}
@@ -186,6 +187,31 @@ module _ (key : Start) (id : ℕ) (v : View) (leads : v.leads ≡ true) where
       zero_noted ws k al live true p (inl f) = inr (subst (IsZeroFreed ws) (sym f) (record { whole = al; live = live; zero_mask = is_number (freed ws m) 0 p }))
       zero_noted ws k al live true p (inr q) = inl q
       zero_noted ws k al live false p q = inl q
+
+  -- a load of an avail word: only the lock's seat sets bits of the mask, so one that reads 0 stays so
+  pub avail_may : (m : ℕ) (g : Group) → Among g v.desk.groups → g.meta ≡ m → May key id v ((m + 24) / 4) (λ n. n) (λ v n u. (u ≡ read (avail_read v m n) (m + 24) n) × (n / 4294967296 ≡ g.tag))
+  avail_may m g there is ws vs kept e fits =
+      let p = loads_by key id v (m + 24) (λ n. avail_read v m n) notes ws vs kept e fits in
+      (p.0, p.1, (p.2, ap (λ k. tag ws k) (sym is) ∙ sym (ap (λ (y : Group). y.tag) ((subst (Listing ws) (led ws vs kept e) kept.listing).live g there).group)))
+    where
+      no_bits : (n j : ℕ) → n % 4294967296 ≡ 0 → j < 32 → bit_at n j ≡ 0
+      no_bits n j z lt =
+          let whole : n ≡ n / 4294967296 * 2 ^ 32 + 0 = omega arith in
+          ap (λ y. bit_at y j) whole ∙ bit_at_cat_low (n / 4294967296) 32 0 j lt ∙ Rattle.ng_group_moves.proofs.Publish.bit_zero j
+
+      zero_noted : (ws : List ℕ) (k : ℕ) → m % 4 ≡ 0 → 0 < tag ws m → (b : Bool) → eqb (avail ws m % 4294967296) 0 ≡ b → Among k (cond b (m ∷ v.desk.zero_avail) v.desk.zero_avail) → Among k v.desk.zero_avail ⊎ IsZeroAvail ws k
+      zero_noted ws k al live true z (inl f) = inr (subst (IsZeroAvail ws) (sym f) (record { whole = al; live = live; zero_bits = λ j lt. no_bits (avail ws m) j (is_number (avail ws m % 4294967296) 0 z) lt }))
+      zero_noted ws k al live true z (inr q) = inl q
+      zero_noted ws k al live false z q = inl q
+
+      notes : (ws : List ℕ) (vs : List View) → Rule key ws vs → get_elem? vs id ≡ some v → Rule key ws (set vs id (avail_read v m (avail ws m)))
+      notes ws vs kept e =
+          let l = (subst (Listing ws) (led ws vs kept e) kept.listing).live g there in
+          let al : m % 4 ≡ 0 = subst (λ k. k % 4 ≡ 0) is l.whole in
+          let live : 0 < tag ws m = subst (λ k. 0 < tag ws k) is (subst (λ (y : Group). 0 < y.tag) l.group l.live) in
+          notes_ring key ws vs id v kept e leads v.desk.listed
+          (cond (eqb (avail ws m % 4294967296) 0) (m ∷ v.desk.zero_avail) v.desk.zero_avail) v.desk.zero_freed v.desk.set_freed
+          (λ k j kl lj some_bit q. q) (λ k q. inl q) (λ k q. zero_noted ws k al live (eqb (avail ws m % 4294967296) 0) refl q) (λ k q. inl q) (λ k i q. inl q)
 
   pub active_may : (c m : ℕ) → c < 48 → m < 4294967296 → (m ≡ 0) ⊎ IsMetaPlace m key.pages → May key id v (4 * (c + 1) / 4) (λ n. m) (λ v n u. u ≡ active_set v c m)
   active_may c m lt fits place ws vs kept e _ = (active_set v c m, sets_active key ws vs id v kept e leads c m lt fits place, refl)

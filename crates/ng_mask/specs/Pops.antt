@@ -23,7 +23,8 @@ pub record LosesOnce (meta class : ℕ) (before after : View) : Type 0 where
 -- so many exchanges were lost, one after the other
 abbrev pub Loses : ℕ → ℕ → ℕ → View → View → Type 0
 Loses meta class zero before after = before ≡ after
-Loses meta class (suc n) before after = (between : View) × Loses meta class n before between × LosesOnce meta class between after
+Loses meta class (suc n) before after =
+    (between : View) × Loses meta class n before between × LosesOnce meta class between after
 
 -- fewer than 32 exchanges were lost, and then the avail word was loaded
 pub record LastLoads (meta class seen : ℕ) (before after : View) : Type 0 where

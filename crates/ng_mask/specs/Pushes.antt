@@ -48,7 +48,8 @@ pub record LosesOnce (slot : Pushed) (before after : View) : Type 0 where
 -- so many exchanges were lost, one after the other
 abbrev pub Loses : Pushed → ℕ → View → View → Type 0
 Loses slot zero before after = before ≡ after
-Loses slot (suc n) before after = (between : View) × Loses slot n before between × LosesOnce slot between after
+Loses slot (suc n) before after =
+    (between : View) × Loses slot n before between × LosesOnce slot between after
 
 -- fewer than 32 exchanges were lost, and then these masks were loaded
 pub record LastLoads (slot : Pushed) (freed avail : ℕ) (before after : View) : Type 0 where

@@ -17,4 +17,5 @@ rooms_of books = map (λ (b : book.Shown). b.spare) books
 -- empty books with these rooms, numbered from a number on
 abbrev pub fresh_books : ℕ → List ℕ → List book.Shown
 fresh_books number [] = []
-fresh_books number (room ∷ rooms) = record { number = number; spare = room; entries = [] } ∷ fresh_books (number + 1) rooms
+fresh_books number (room ∷ rooms) =
+    record { number = number; spare = room; entries = [] } ∷ fresh_books (number + 1) rooms

@@ -19,8 +19,10 @@ fresh_caller number room = record { view = fresh_hand number; number = number; s
 -- hands with these rooms, numbered from a number on
 abbrev pub fresh_callers : ℕ → List ℕ → List Caller
 fresh_callers number [] = []
-fresh_callers number (room ∷ rooms) = fresh_caller number room ∷ fresh_callers (number + 1) rooms
+fresh_callers number (room ∷ rooms) =
+    fresh_caller number room ∷ fresh_callers (number + 1) rooms
 
 -- what the lock's seat knows once so many hands are split off it
 abbrev pub opened : Start → ℕ → View
-opened start hands = let first : View = opener start in record first { desk = record first.desk { next = 1 + hands } }
+opened start hands =
+    let first : View = opener start in record first { desk = record first.desk { next = 1 + hands } }

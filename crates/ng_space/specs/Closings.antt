@@ -24,7 +24,8 @@ views_of lock hands = lock ∷ map (λ (hand : Caller). hand.view) hands
 
 -- the books of hands
 abbrev pub books_of : List Caller → List book.Shown
-books_of hands = map (λ (hand : Caller). record { number = hand.number; spare = hand.spare; entries = hand.entries }) hands
+books_of hands =
+    map (λ (hand : Caller). record { number = hand.number; spare = hand.spare; entries = hand.entries }) hands
 
 -- one of the hands has the number
 abbrev pub HasNumber : List Caller → ℕ → Type 0
@@ -37,7 +38,8 @@ pub record AreAll (lock : View) (hands : List Caller) : Type 0 where
 
 -- no parcel is out: what the hands sent out they took in
 abbrev pub IsEven : List Caller → Type 0
-IsEven hands = total_by (λ (hand : Caller). hand.view.sent) hands ≡ total_by (λ (hand : Caller). hand.view.taken) hands
+IsEven hands = total_by (λ (hand : Caller). hand.view.sent) hands
+    ≡ total_by (λ (hand : Caller). hand.view.taken) hands
 
 -- the rule holds of the words, and of views of which v is one
 pub record EndsWith (key : Start) (ws : List ℕ) (v : View) : Type 0 where
@@ -59,4 +61,5 @@ AreRunsUsed ws d = (r : Run) → Among r d.runs → (r.area ≡ true) ⊎ IsGrou
 
 -- the cells of an area's metas without a live group are 0
 abbrev pub AreFreeMetasBlank : List ℕ → Layout → Type 0
-AreFreeMetasBlank ws d = (m b : ℕ) → m % 4 ≡ 0 → InArea d m → tag ws m ≡ 0 → b < 40 → b % 4 ≡ 0 → cell ws (m + b) ≡ 0
+AreFreeMetasBlank ws d = (m b : ℕ) → m % 4 ≡ 0 → InArea d m → tag ws m ≡ 0
+    → b < 40 → b % 4 ≡ 0 → cell ws (m + b) ≡ 0

@@ -29,7 +29,11 @@ impl Model for Blank {
 
     ghost use Rattle.ng_space.specs.Insides.{IsBlank};
 
-    ghost view = { λ blank. record { table = blank.table.shared.table_id; start = blank.start; rooms = rooms_of blank.books.items } };
+    ghost view = { λ blank. record {
+      table = blank.table.shared.table_id;
+      start = blank.start;
+      rooms = rooms_of blank.books.items;
+    } };
 
     ghost invariant = { IsBlank };
 }

@@ -21,7 +21,12 @@ impl<N: Name> Model for Hand<N> {
 
     ghost use Rattle.ng_space.specs.Seats.{IsCaller};
 
-    ghost view = { λ hand. record { view = hand.seat.me.0; number = hand.book.number; spare = hand.book.spare; entries = hand.book.entries } };
+    ghost view = { λ hand. record {
+      view = hand.seat.me.0;
+      number = hand.book.number;
+      spare = hand.book.spare;
+      entries = hand.book.entries;
+    } };
 
     ghost invariant = { λ hand. IsCaller N.table hand.seat hand.book };
 }

@@ -94,7 +94,8 @@ impl<N: Name> Space<N> {
     ) -> Result<(), (Slot<N>, u32)>
         requires slot { HasSlot hand.old slot }
         requires seen { 0 < seen }
-        ensures ok { IfOk result (λ done. hand.new.view ≡ read (pushed hand.old.view slot.meta slot.index) (slot.meta + 28) seen) }
+        ensures ok { IfOk result (λ done.
+            hand.new.view ≡ read (pushed hand.old.view slot.meta slot.index) (slot.meta + 28) seen) }
         ensures slot { IfErr result (λ left. left.0 ≡ slot) }
         ensures found { IfErr result (λ left. left.1 ≢ seen) }
         ensures held { IfErr result (λ left. HasSlot hand.new left.0) }

@@ -31,7 +31,14 @@ impl<N: Name> Model for Slot<N> {
 
     ghost use Rattle.ng_space.specs.Tokens.{IsToken};
 
-    ghost view = { λ slot. record { meta = slot.meta; index = slot.index; start = slot.start; end = slot.end; room = slot.room; hand = slot.hand } };
+    ghost view = { λ slot. record {
+      meta = slot.meta;
+      index = slot.index;
+      start = slot.start;
+      end = slot.end;
+      room = slot.room;
+      hand = slot.hand;
+    } };
 
     ghost invariant = { λ slot. IsToken N.start slot.meta slot.index slot.end };
 }

@@ -38,7 +38,8 @@ impl<N: Name> Space<N> {
     )
         requires fits { seat.old.table_id ≡ N.table }
         requires inside { addr < 4096 * N.start.pages }
-        requires may { May N.start seat.old.id seat.old.me.0 (addr / 4) (λ n. value) (λ before n after. T.told before value after) }
+        requires may { May N.start seat.old.id seat.old.me.0 (addr / 4)
+            (λ n. value) (λ before n after. T.told before value after) }
         ensures told { T.told seat.old.me.0 value seat.new.me.0 }
         ensures table { seat.new.table_id ≡ seat.old.table_id }
         ensures slots { seat.new.me.1 ≡ seat.old.me.1 }

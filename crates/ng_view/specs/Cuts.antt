@@ -27,7 +27,8 @@ pub record Cut (v l r : View) : Type 0 where
   pub whole : (IsParcel v → IsParcel l) × IsParcel r
   pub single : (IsSingle v → IsSingle l) × IsSingle r
   pub moving : IsMoving v → IsMoving l
-  pub parcels : (count_of l.parcel + count_of r.parcel) + (l.taken + r.taken) + v.sent ≡ count_of v.parcel + v.taken + (l.sent + r.sent)
+  pub parcels : (count_of l.parcel + count_of r.parcel) + (l.taken + r.taken) + v.sent
+      ≡ count_of v.parcel + v.taken + (l.sent + r.sent)
 
 -- b is v and w made one, which goes on in the seat of v; what is left is spent
 pub record Merge (v w b s : View) : Type 0 where
@@ -37,7 +38,8 @@ pub record Merge (v w b s : View) : Type 0 where
   pub has : (m i : ℕ) → has m i b + has m i s ≡ has m i v + has m i w
   pub blocks : (p : Extent) → blocks p b + blocks p s ≡ blocks p v + blocks p w
   pub numbers : (k : ℕ) → numbered k b + numbered k s ≡ numbered k v + numbered k w
-  pub excuses : (e : ℕ) → excused e b.excuses + excused e s.excuses ≡ excused e v.excuses + excused e w.excuses
+  pub excuses : (e : ℕ) → excused e b.excuses + excused e s.excuses
+      ≡ excused e v.excuses + excused e w.excuses
   pub booked : (e : ℕ) → booked e b + booked e s ≡ booked e v + booked e w
   pub held : (h : Held) → Among h b.held → Among h v.held ⊎ Among h w.held
   pub books : (x : Book) → Among x b.books → Among x v.books ⊎ Among x w.books
@@ -47,4 +49,5 @@ pub record Merge (v w b s : View) : Type 0 where
   pub whole : IsParcel v → IsParcel w → IsParcel b
   pub single : IsSingle v → IsSingle b
   pub moving : IsMoving v → IsIdle w → IsMoving b
-  pub parcels : (count_of b.parcel + count_of s.parcel) + (b.taken + s.taken) + (v.sent + w.sent) ≡ (count_of v.parcel + count_of w.parcel) + (v.taken + w.taken) + (b.sent + s.sent)
+  pub parcels : (count_of b.parcel + count_of s.parcel) + (b.taken + s.taken) + (v.sent + w.sent)
+      ≡ (count_of v.parcel + count_of w.parcel) + (v.taken + w.taken) + (b.sent + s.sent)

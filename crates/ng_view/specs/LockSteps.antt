@@ -1,5 +1,5 @@
 -- The views after each kind of step of the lock's seat.
-use Rattle.std.specs.Prelude.{◌≡◌, ℕ, zero, suc, ◌+◌, ◌*◌, ◌&&◌, eqb, leb, cond, Bool, true, false, List, [], ◌∷◌, ◌++◌, map, set, bit_and, Option, Some, None}
+use Rattle.std.specs.Prelude.{◌≡◌, ℕ, zero, suc, ◌+◌, ◌*◌, ◌%◌, ◌&&◌, eqb, leb, cond, Bool, true, false, List, [], ◌∷◌, ◌++◌, map, set, bit_and, Option, Some, None}
 use Rattle.ng_view.specs.declared.view.Group.{Group}
 use Rattle.ng_view.specs.declared.view.Held.{Held}
 use Rattle.ng_view.specs.declared.view.Excuse.{Excuse}
@@ -195,6 +195,13 @@ ring_read v m listed n = ring_noted v
     v.desk.zero_avail
     (cond (eqb n 0) (m ∷ v.desk.zero_freed) v.desk.zero_freed)
     (read_bits m n ++ v.desk.set_freed)
+
+-- a load of the avail word n of the meta m: a mask that reads 0 is noted
+abbrev pub avail_read : View → ℕ → ℕ → View
+avail_read v m n = ring_noted v v.desk.listed
+    (cond (eqb (n % 4294967296) 0) (m ∷ v.desk.zero_avail) v.desk.zero_avail)
+    v.desk.zero_freed
+    v.desk.set_freed
 
 -- the avail mask n is emptied
 abbrev pub avail_emptied : View → Group → ℕ → View
