@@ -1,1 +1,4 @@
 pub mod Pushes
+pub mod Bits
+pub mod Motion
+pub mod Fetches

@@ -9,4 +9,14 @@ pub mod Closed
 pub mod Placing
 pub mod Reading
 pub mod Holding
+pub mod Locked
+pub mod Fetched
+pub mod Stepped
+pub mod Lived
+pub mod Annotated
 pub mod Counting
+pub mod Passed
+pub mod Trials
+pub mod Pairs
+pub mod Endings
+pub mod Partings

@@ -11,3 +11,5 @@ pub mod Tokens
 pub mod Placed
 pub mod Masks
 pub mod Tests
+pub mod Passed
+pub mod Trials

@@ -3,18 +3,26 @@
 
 mod blank;
 mod close;
+mod excuse;
+mod fetch;
 mod hand;
 mod image;
 mod load;
 mod lock;
+mod lock_groups;
+mod lock_masks;
+mod lock_notes;
+mod lock_pages;
 mod mask_step;
 mod name;
+mod passing;
 mod rule;
 mod slot;
 mod space;
 mod step;
 
 pub use blank::Blank;
+pub use excuse::Excuse;
 pub use hand::Hand;
 pub use image::Image;
 pub use lock::LockSeat;
@@ -24,5 +32,7 @@ pub use ng_view::view::Start;
 pub use slot::Slot;
 pub use space::Space;
 
+#[cfg(test)]
+mod lock_tests;
 #[cfg(test)]
 mod tests;

@@ -49,7 +49,12 @@ impl<N: Name> Space<N> {
     }
 
     // A load of word 0, of which `T` tells with the number and the entry.
-    fn enter_told<T: Telling>(&self, seat: &mut Seat<(), View>, _number: u32, _entry: &Entry)
+    pub(crate) fn enter_told<T: Telling>(
+        &self,
+        seat: &mut Seat<(), View>,
+        _number: u32,
+        _entry: &Entry,
+    )
         requires fits { seat.old.table_id ≡ N.table }
         requires may { May N.start seat.old.id seat.old.me.0 (0 / 4) (λ n. n) T.told }
         ensures told { (found : ℕ) × T.told seat.old.me.0 found seat.new.me.0 }

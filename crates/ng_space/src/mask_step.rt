@@ -13,13 +13,13 @@ use ng_meta::mask_of;
 use std::marker::Brand;
 
 // Where the parts of a meta are.
-const MEM: u64 = 16;
+pub(crate) const MEM: u64 = 16;
 
-const AVAIL: u64 = 24;
+pub(crate) const AVAIL: u64 = 24;
 
-const FREED: u64 = 28;
+pub(crate) const FREED: u64 = 28;
 
-const FLAGS: u64 = 32;
+pub(crate) const FLAGS: u64 = 32;
 
 impl<N: Name> Space<N> {
     /// Stores a number in one of the slot's own cells. In the cell before the slot's start, which is
@@ -67,7 +67,7 @@ impl<N: Name> Space<N> {
     }
 
     // The slot, once its meta's mem and flags are loaded.
-    fn slot_at(&self, hand: &mut Hand<N>, meta: u64, index: u32) -> Slot<N>
+    pub(crate) fn slot_at(&self, hand: &mut Hand<N>, meta: u64, index: u32) -> Slot<N>
         requires place { IsMetaPlace meta N.start.pages }
         requires free { HasFree hand.old.view meta index }
         ensures view { Looks hand.old.view meta hand.new.view }

@@ -1,0 +1,10 @@
+pub mod Facts
+pub mod Fetching
+pub mod Apart
+pub mod Storing
+pub mod Deciding
+pub mod Loading
+pub mod Publishing
+pub mod Retiring
+pub mod Noting
+pub mod Knowing

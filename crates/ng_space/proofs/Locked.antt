@@ -1,0 +1,54 @@
+-- What holds of the lock's seat holds after its steps.
+use Rattle.std.proofs.Common.{◌≡◌, ◌⊎◌, ℕ, ◌≤◌, List, [], ◌∷◌, ◌++◌, map, sym, ap, ◌∙◌, subst, ⊎_elim, inl, inr}
+use Rattle.std.specs.Prelude.{None}
+use Rattle.atomic_table.specs.Seated.{TableId}
+use Rattle.atomic_table.specs.declared.shared.Seat.{Seat}
+use Rattle.ng_history.specs.Book as book
+use Rattle.ng_geometry.proofs.Lists.{among_without}
+use Rattle.ng_view.specs.Lists.{Among, without}
+use Rattle.ng_view.specs.LockSteps.{let_go}
+use Rattle.ng_view.specs.Steps.{in_motion}
+use Rattle.ng_view.specs.declared.view.Group.{Group}
+use Rattle.ng_view.specs.declared.view.Held.{Held}
+use Rattle.ng_view.specs.declared.view.View.{View}
+use Rattle.ng_space.specs.Seats.{IsLockSeat}
+
+-- the slots of the view after are ones of the view before, or in motion
+abbrev pub AreStill : List Held → List Held → Type 0
+AreStill before after = (h : Held) → Among h after → Among h before ⊎ (h.block ≡ None)
+
+-- the view after is like the one before in what makes it the lock's
+pub record IsAlike (v w : View) : Type 0 where
+  pub leads : w.leads ≡ v.leads
+  pub parcel : w.parcel ≡ v.parcel
+  pub books : w.books ≡ v.books
+  pub sent : w.sent ≡ v.sent
+  pub taken : w.taken ≡ v.taken
+  pub next : w.desk.next ≡ v.desk.next
+  pub still : AreStill v.held w.held
+
+pub lock_stays : (table : TableId) (s t : Seat (Unit {0}) View) (shelf : List book.Shown) (room : ℕ) (w : View) → IsLockSeat table s shelf room → t.table_id ≡ s.table_id → t.me.1 ≡ s.me.1 → t.me.0 ≡ w → IsAlike s.me.0 w → IsLockSeat table t shelf room
+lock_stays table s t shelf room w is same_table same_slots view alike = record {
+  fits = same_table ∙ is.fits;
+  no_slots = same_slots ∙ is.no_slots;
+  leads = ap (λ (v : View). v.leads) view ∙ alike.leads ∙ is.leads;
+  whole = ap (λ (v : View). v.parcel) view ∙ alike.parcel ∙ is.whole;
+  bookless = ap (λ (v : View). v.books) view ∙ alike.books ∙ is.bookless;
+  none_sent = ap (λ (v : View). v.sent) view ∙ alike.sent ∙ is.none_sent;
+  none_taken = ap (λ (v : View). v.taken) view ∙ alike.taken ∙ is.none_taken;
+  moving = λ h q. ⊎_elim (λ (t : Among h s.me.0.held). is.moving h t) (λ (none : h.block ≡ None). none) (alike.still h (subst (λ (v : View). Among h v.held) view q));
+  few = subst (λ n. n ≤ 17) (sym (ap (λ (v : View). v.desk.next) view ∙ alike.next)) is.few;
+  cleared = is.cleared;
+  roomy = is.roomy;
+}
+
+-- slots come in motion
+pub still-fetched : (g : Group) (is : List ℕ) (hs : List Held) → AreStill hs (map (in_motion g) is ++ hs)
+still-fetched g [] hs h s = inl s
+still-fetched g (i ∷ is) hs h (inl e) = inr (ap (λ (y : Held). y.block) e)
+still-fetched g (i ∷ is) hs h (inr s) = still-fetched g is hs h s
+
+-- slots go
+pub still-let_go : (m : ℕ) (is : List ℕ) (hs : List Held) → AreStill hs (let_go m is hs)
+still-let_go m [] hs h s = inl s
+still-let_go m (i ∷ is) hs h s = ⊎_elim (λ (t : Among h (without m i hs)). inl (among_without m i hs h t)) (λ (none : h.block ≡ None). inr none) (still-let_go m is (without m i hs) h s)

@@ -1,0 +1,16 @@
+use Rattle.std.proofs.Common.{sym, subst}
+use Rattle.ng_view.specs.declared.view.View.{View}
+use Rattle.ng_lock_moves.specs.Fetches.{EmptiesAvail, HasGroup}
+use Rattle.ng_lock_moves.proofs.Fetching.{empties}
+use Rattle.ng_space.proofs.Fetched.{empties_stays}
+use Rattle.ng_space.proofs.space.Space.empty_avail.Goals as goal
+
+pub and_told-found-requires-clause-may : goal.and_told-found-requires-clause-may
+and_told-found-requires-clause-may g c = empties _ _ _ c.seat.invariant.leads _ (subst (λ (v : View). HasGroup v c.args.meta) (sym c.seat.view_is) c.requires.live)
+
+pub invariant_of-seat : goal.invariant_of-seat
+invariant_of-seat g c = empties_stays _ _ _ _ _ c.seat.invariant c.and_told-found.ensures.table c.and_told-found.ensures.slots c.args.meta c.and_told-found.result
+    (subst (λ (v : View). HasGroup v c.args.meta) (sym c.seat.view_is) c.requires.live) c.and_told-found.ensures.told
+
+pub returns : goal.returns
+returns g c = (c.and_told-found.result, c.mask_of.ensures, subst (λ (v : View). EmptiesAvail v c.args.meta c.and_told-found.result c.and_told-found.new.seat.me.0) c.seat.view_is c.and_told-found.ensures.told)

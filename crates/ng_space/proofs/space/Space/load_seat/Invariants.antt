@@ -1,0 +1,5 @@
+use Rattle.ng_lock_moves.specs.Loads.{Loads, TellsGroups}
+use Rattle.ng_space.proofs.space.Space.load_seat.Given as goal
+
+abbrev pub ghosts-load_told : goal.ghosts-load_told
+ghosts-load_told g a = record { told = λ before found after. Loads before a.addr found after × TellsGroups before a.addr found }

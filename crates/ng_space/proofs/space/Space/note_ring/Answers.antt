@@ -1,0 +1,17 @@
+use Rattle.std.proofs.Common.{sym, subst, arith}
+use Rattle.ng_view.specs.declared.view.View.{View}
+use Rattle.ng_lock_moves.specs.Fetches.{HasGroup}
+use Rattle.ng_lock_moves.proofs.Noting.{notes_ring}
+use Rattle.ng_space.proofs.Annotated.{ring_stays}
+use Rattle.ng_space.proofs.space.Space.note_ring.Goals as goal
+
+pub ring_told-requires-clause-may : goal.ring_told-requires-clause-may
+ring_told-requires-clause-may g c = notes_ring _ _ _ c.seat.invariant.leads c.args.meta c.args.listed (subst (λ (v : View). HasGroup v c.args.meta) (sym c.seat.view_is) c.requires.live)
+
+pub overflow_cast-result : goal.overflow_cast-result
+overflow_cast-result g c =
+    let has = subst (λ (v : View). HasGroup v c.args.meta) (sym c.seat.view_is) c.requires.live in
+    let small = (c.ring_told.ensures.told.tells has.group has.there has.of_meta).fits in record { fits = omega arith }
+
+pub invariant_of-seat : goal.invariant_of-seat
+invariant_of-seat g c = ring_stays _ _ _ _ _ c.seat.invariant c.ring_told.ensures.table c.ring_told.ensures.slots c.args.meta c.args.listed c.ring_told.result c.ring_told.ensures.told

@@ -1,0 +1,12 @@
+use Rattle.std.proofs.Common.{sym, subst}
+use Rattle.ng_view.specs.declared.view.View.{View}
+use Rattle.ng_lock_moves.specs.Groups.{HasAllSlots}
+use Rattle.ng_lock_moves.proofs.Retiring.{retires}
+use Rattle.ng_space.proofs.Lived.{retires_stays}
+use Rattle.ng_space.proofs.space.Space.retire.Goals as goal
+
+pub store_told-requires-clause-may : goal.store_told-requires-clause-may
+store_told-requires-clause-may g c = retires _ _ _ c.seat.invariant.leads c.seat.invariant.moving c.args.meta (subst (λ (v : View). HasAllSlots v c.args.meta) (sym c.seat.view_is) c.requires.slots)
+
+pub invariant_of-seat : goal.invariant_of-seat
+invariant_of-seat g c = retires_stays _ _ _ _ _ c.seat.invariant c.store_told.ensures.table c.store_told.ensures.slots c.args.meta c.store_told.ensures.told

@@ -1,0 +1,19 @@
+use Rattle.std.proofs.Common.{sym, subst, arith}
+use Rattle.ng_view.specs.Lists.{Among}
+use Rattle.ng_view.specs.declared.view.View.{View}
+use Rattle.ng_lock_moves.specs.Fetches.{MayPutBack, StocksAvail}
+use Rattle.ng_lock_moves.proofs.Fetching.{stocks}
+use Rattle.ng_space.proofs.Fetched.{stocks_stays}
+use Rattle.ng_space.proofs.space.Space.stock_avail.Goals as goal
+
+pub or_told-requires-clause-may : goal.or_told-requires-clause-may
+or_told-requires-clause-may g c =
+    let view = sym c.seat.view_is in let bits = c.from-bits.ensures in
+    stocks _ _ _ c.seat.invariant.leads _ c.from-bits.result (subst (λ n. MayPutBack c.seat.inside.seat.me.0 c.args.meta n) (sym bits) (subst (λ (v : View). MayPutBack v c.args.meta c.args.bits) view c.requires.slots))
+    (subst (λ (v : View). Among c.args.meta v.desk.zero_avail) view c.requires.zero) (let f = c.ranges.bits.fits in omega arith)
+
+pub invariant_of-seat : goal.invariant_of-seat
+invariant_of-seat g c = stocks_stays _ _ _ _ _ c.seat.invariant c.or_told.ensures.table c.or_told.ensures.slots c.args.meta c.from-bits.result c.or_told.result c.or_told.ensures.told
+
+pub returns : goal.returns
+returns g c = (c.or_told.result, subst (λ n. StocksAvail c.args.seat.now c.args.meta n c.or_told.result c.or_told.new.seat.me.0) c.from-bits.ensures (subst (λ (v : View). StocksAvail v c.args.meta c.from-bits.result c.or_told.result c.or_told.new.seat.me.0) c.seat.view_is c.or_told.ensures.told))
