@@ -2,3 +2,4 @@ pub mod Pushes
 pub mod Bits
 pub mod Motion
 pub mod Fetches
+pub mod PopCounts
