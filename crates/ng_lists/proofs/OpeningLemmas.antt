@@ -7,7 +7,7 @@ use Rattle.ng_lists.specs.Arrays.{IsRing, IsSound, members, ring_at, rings_from,
 use Rattle.ng_lists.specs.Place.{address_at}
 
 -- each read of zeros is 0
-zero_read : (n i : ℕ) → get_or (replicate {A = ℕ} n 0) i 0 ≡ 0
+pub zero_read : (n i : ℕ) → get_or (replicate {A = ℕ} n 0) i 0 ≡ 0
 zero_read n i = ⊎_elim
     (λ inside. get_or-replicate n i 0 0 inside)
     (λ past. get_or_past (replicate n 0) i 0 (omega (arith, length-replicate {A = ℕ} n 0)))

@@ -5,6 +5,7 @@ mod links;
 mod place;
 mod rings;
 
+pub use place::{METAS, address_of, index_of};
 pub use rings::Rings;
 
 #[cfg(test)]

@@ -1,0 +1,5 @@
+pub mod FreeMetas
+pub mod Queue
+pub mod Parents
+pub mod Carriers
+pub mod Shape
