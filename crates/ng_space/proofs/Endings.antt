@@ -1,4 +1,4 @@
--- The end of the group of the trial.
+-- The end of the only group of a trial.
 use Rattle.std.proofs.Common.{◌≡◌, ℕ, zero, suc, ◌+◌, ◌-◌, ◌*◌, ◌%◌, ◌<◌, ◌≤◌, false, List, [], ◌∷◌, refl, sym, ap, ◌∙◌, subst, ⊎_elim, inl, inr, arith}
 use Rattle.std.proofs.lemmas.Bool.{cases_eq, cases_lt}
 use Rattle.ng_view.specs.Conditions.{Builds, IsMetaCell, IsRunCell, Sees}
@@ -14,7 +14,7 @@ use Rattle.ng_lock_moves.specs.Loads.{Loads}
 use Rattle.ng_lock_moves.specs.Notes.{IsClearedRun, NotesRun, plain_run}
 use Rattle.ng_lock_moves.specs.Stores.{Stores}
 use Rattle.ng_lock_moves.proofs.Knowing.{off_else, sees-built, sees-built_else}
-use Rattle.ng_space.specs.Trials.{AreMetasBlank, BuildsAll, IsCleared, Stands, area_run, pair_group}
+use Rattle.ng_space.specs.Trials.{AreMetasBlank, BuildsAll, IsCleared, Stands, area_run}
 use Rattle.ng_space.proofs.Pairs.{pair_runs}
 use Rattle.ng_space.proofs.Trials.{builds-meta, builds-run}
 
@@ -87,12 +87,12 @@ module _ (v w : View) (a k n : ℕ) (whole : a % 4 ≡ 0) (all : BuildsAll v a n
       one_more v w t a k whole c (both w u t (keeps-load w u (a + 4 * k) x builds-next told) (keeps-store u t (a + 4 * k) e)) (sees-built u t (a + 4 * k) 0 e)
 
 -- ---- the group goes
-stands-same : (v w : View) (rs : List Run) (gs : List Group) (a n : ℕ) → Stands v rs gs → IsCleared v a n w → Stands w rs gs
+pub stands-same : (v w : View) (rs : List Run) (gs : List Group) (a n : ℕ) → Stands v rs gs → IsCleared v a n w → Stands w rs gs
 stands-same v w rs gs a n s c = record { runs = ap (λ (d : Layout). d.runs) c.layout ∙ s.runs; nests = ap (λ (d : Layout). d.nests) c.layout ∙ s.nests; groups = c.groups ∙ s.groups; next = c.next ∙ s.next }
 
-module _ (v w0 w1 w2 : View) (stands : Stands v pair_runs (pair_group ∷ [])) (blank : AreMetasBlank v 1) (r0 : Retires v 4120 w0) where
+module _ (v w0 w1 w2 : View) (g : Group) (alone : groups_but 4120 (g ∷ []) ≡ []) (stands : Stands v pair_runs (g ∷ [])) (blank : AreMetasBlank v 1) (r0 : Retires v 4120 w0) where
   gone : Stands w0 pair_runs []
-  gone = subst (λ (x : View). Stands x pair_runs []) (sym r0.view) (record { runs = stands.runs; nests = ap (without_nest 4120) stands.nests; groups = ap (groups_but 4120) stands.groups; next = stands.next })
+  gone = subst (λ (x : View). Stands x pair_runs []) (sym r0.view) (record { runs = stands.runs; nests = ap (without_nest 4120) stands.nests; groups = ap (groups_but 4120) stands.groups ∙ alone; next = stands.next })
 
   pub builds-old_meta : BuildsAll w0 4120 10
   builds-old_meta b al low high = subst (Builds w0) (let e : 4120 + 40 * 0 + (b - 4120) ≡ b = omega arith in e) (builds-meta w0 pair_runs 0 (b - 4120) gone (inr (inl refl)) (omega arith) (omega arith) (omega arith))

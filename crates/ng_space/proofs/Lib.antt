@@ -20,3 +20,6 @@ pub mod Trials
 pub mod Pairs
 pub mod Endings
 pub mod Partings
+pub mod Nests
+pub mod Carrying
+pub mod Ending

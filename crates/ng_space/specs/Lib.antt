@@ -13,3 +13,4 @@ pub mod Masks
 pub mod Tests
 pub mod Passed
 pub mod Trials
+pub mod Nests

@@ -35,4 +35,6 @@ pub use space::Space;
 #[cfg(test)]
 mod lock_tests;
 #[cfg(test)]
+mod nest_tests;
+#[cfg(test)]
 mod tests;

@@ -14,7 +14,7 @@ use std::marker::Brand;
 use std::process::Abort;
 use std::test::Fail;
 
-const AREA: u64 = 0x1000;
+pub(crate) const AREA: u64 = 0x1000;
 
 /// The first meta of the area.
 const META: u64 = 0x1018;
@@ -24,7 +24,7 @@ const BASE: u64 = 0x2000;
 // The last index 1, freeable, the class 23, and one page.
 const FLAGS: u32 = 1 + (1 << 5) + (23 << 6) + (1 << 12);
 
-fn make_area<N: Name>(space: &Space<N>, seat: &mut LockSeat<N>)
+pub(crate) fn make_area<N: Name>(space: &Space<N>, seat: &mut LockSeat<N>)
     requires start { N.start ≡ trial_start }
     requires fresh { Stands seat.old [] [] }
     ensures stands { Stands seat.new (area_run ∷ []) [] }
@@ -69,7 +69,7 @@ fn take_down<N: Name>(space: &Space<N>, seat: &mut LockSeat<N>)
 }
 
 // Stores 0 where there is another number.
-fn clear<N: Name>(space: &Space<N>, seat: &mut LockSeat<N>, from: u64, cells: u64)
+pub(crate) fn clear<N: Name>(space: &Space<N>, seat: &mut LockSeat<N>, from: u64, cells: u64)
     requires start { N.start ≡ trial_start }
     requires cell { from % 4 ≡ 0 }
     requires inside { from + 4 * cells ≤ 65536 }
@@ -91,7 +91,7 @@ fn a_group_lives_and_ends(rt: HostRuntime) -> Result<(), Fail> {
     live_once::<Brand, _>(&rt, alloc, blank)
 }
 
-fn start() -> Start
+pub(crate) fn start() -> Start
     ensures { result ≡ trial_start }
 {
     Start {

@@ -1,0 +1,123 @@
+// A group of five slots, and one of fifteen in the first of them, come to live and end.
+ghost use Rattle.std.specs.Prelude.{◌≡◌, ◌∷◌, []};
+ghost use Rattle.ng_lock_moves.specs.Groups.{HasAllSlots};
+ghost use Rattle.ng_space.specs.Nests.{HasSlots, IsWritten, StandsNested, nest_runs, outer_group};
+ghost use Rattle.ng_space.specs.Trials.{AreMetasBlank, Stands, area_run, trial_start};
+
+use crate::lock_tests::{AREA, clear, make_area, start};
+use crate::{Blank, LockSeat, Name, Space};
+use std::alloc::Global;
+use std::marker::Brand;
+use std::process::Abort;
+use std::test::Fail;
+
+/// The first two metas of the area.
+const OUTER: u64 = 0x1018;
+const INNER: u64 = 0x1040;
+
+/// Where the groups begin, the inner one in the first slot of the outer.
+const BASE: u64 = 0x2000;
+const SLOT: u64 = 0x2010;
+
+// The last index 4, freeable, the class 15, and one page.
+const OUTER_FLAGS: u32 = 4 + (1 << 5) + (15 << 6) + (1 << 12);
+
+// The last index 14, freeable, the class 1, and no page.
+const INNER_FLAGS: u32 = 14 + (1 << 5) + (1 << 6);
+
+// All slots are in motion then.
+fn build_outer<N: Name>(space: &Space<N>, seat: &mut LockSeat<N>)
+    requires start { N.start ≡ trial_start }
+    requires stands { Stands seat.old (area_run ∷ []) [] }
+    requires metas { AreMetasBlank seat.old 0 }
+    ensures stands { Stands seat.new nest_runs (outer_group ∷ []) }
+    ensures metas { AreMetasBlank seat.new 1 }
+    ensures slots { HasSlots seat.new [] }
+{
+    space.note_run(seat, BASE, 1, true);
+    space.store_page(seat, BASE, OUTER as u32);
+    space.store_page(seat, OUTER + 16, BASE as u32);
+    space.store_page(seat, OUTER + 32, OUTER_FLAGS);
+    space.publish(seat, OUTER, 15, 0);
+}
+
+// The cells of the inner group come into the slot, which is in motion.
+fn write_slot<N: Name>(space: &Space<N>, seat: &mut LockSeat<N>)
+    requires start { N.start ≡ trial_start }
+    requires stands { Stands seat.old nest_runs (outer_group ∷ []) }
+    requires metas { AreMetasBlank seat.old 1 }
+    requires slots { HasSlots seat.old [] }
+    ensures { IsWritten seat.new 15 }
+{
+    space.store_page(seat, SLOT, INNER as u32);
+    space.store_page(seat, SLOT + 4, 0);
+    for i in 0..15 {
+        space.store_page(seat, SLOT + 12 + 32 * i, 0);
+    }
+}
+
+// The slot carries the inner group then, whose slots are all in motion.
+fn build_inner<N: Name>(space: &Space<N>, seat: &mut LockSeat<N>)
+    requires start { N.start ≡ trial_start }
+    requires written { IsWritten seat.old 15 }
+    ensures { StandsNested seat.new }
+{
+    space.store_page(seat, INNER + 16, SLOT as u32);
+    space.store_page(seat, INNER + 32, INNER_FLAGS);
+    space.publish(seat, INNER, 1, 0);
+}
+
+// The slot that carried the inner group is in motion again.
+fn end_inner<N: Name>(space: &Space<N>, seat: &mut LockSeat<N>)
+    requires start { N.start ≡ trial_start }
+    requires nested { StandsNested seat.old }
+    ensures stands { Stands seat.new nest_runs (outer_group ∷ []) }
+    ensures metas { AreMetasBlank seat.new 1 }
+    ensures slots { HasAllSlots seat.new 4120 }
+{
+    space.retire(seat, INNER);
+    clear(space, seat, INNER, 10);
+}
+
+// The outer group ends, and so does its run.
+fn end_outer<N: Name>(space: &Space<N>, seat: &mut LockSeat<N>)
+    requires start { N.start ≡ trial_start }
+    requires stands { Stands seat.old nest_runs (outer_group ∷ []) }
+    requires metas { AreMetasBlank seat.old 1 }
+    requires slots { HasAllSlots seat.old 4120 }
+    ensures stands { Stands seat.new (area_run ∷ []) [] }
+    ensures metas { AreMetasBlank seat.new 0 }
+{
+    space.retire(seat, OUTER);
+    clear(space, seat, OUTER, 10);
+    clear(space, seat, BASE, 1024);
+    space.note_run(seat, BASE, 1, false);
+}
+
+#[test]
+fn a_group_lives_in_a_slot(rt: HostRuntime) -> Result<(), Fail> {
+    let alloc = rt.alloc();
+    let blank = Blank::new(alloc, start(), &[4])?;
+    nest_once::<Brand, _>(&rt, alloc, blank)
+}
+
+fn nest_once<N: Name, R: Abort>(rt: &R, alloc: Global, blank: Blank) -> Result<(), Fail>
+    requires table { blank.table ≡ N.table }
+    requires start { blank.start ≡ N.start }
+    requires trial { blank.start ≡ trial_start }
+    requires rooms { blank.rooms ≡ 4 ∷ [] }
+{
+    let (space, mut lock, hands) = Space::<N>::open(alloc, blank)?;
+    make_area(&space, &mut lock);
+    build_outer(&space, &mut lock);
+    write_slot(&space, &mut lock);
+    build_inner(&space, &mut lock);
+    end_inner(&space, &mut lock);
+    end_outer(&space, &mut lock);
+    let (image, _books) = space.close(lock, hands);
+    assert_eq!(rt; image.word(AREA), 0x89ab_cdef);
+    for cell in 0..1024 {
+        assert_eq!(rt; image.word(BASE + 4 * cell), 0, "cell {cell}");
+    }
+    Ok(())
+}
