@@ -1,5 +1,5 @@
 -- The inner group of the trial of nesting ends.
-use Rattle.std.proofs.Common.{◌≡◌, ℕ, zero, suc, ◌+◌, ◌-◌, ◌*◌, ◌%◌, ◌<◌, ◌≤◌, ◌&&◌, eqb, leb, cond, Bool, true, false, List, [], ◌∷◌, ◌++◌, map, refl, sym, ap, ◌∙◌, subst, ⊎_elim, inl, inr, arith}
+use Rattle.std.proofs.Common.{◌≡◌, ◌⊎◌, ℕ, zero, suc, ◌+◌, ◌-◌, ◌*◌, ◌%◌, ◌<◌, ◌≤◌, ◌&&◌, eqb, leb, cond, Bool, true, false, List, [], ◌∷◌, ◌++◌, map, refl, sym, ap, ◌∙◌, subst, ⊎_elim, inl, inr, arith}
 use Rattle.std.specs.Int.{bit_at}
 use Rattle.std.specs.Prelude.{Some}
 use Rattle.std.proofs.lemmas.Bool.{cases_eq}
@@ -42,7 +42,7 @@ has-selected g t (suc k) i hs lt passes = by_test (has-selected g t k i hs) (t k
     by_test : (i < k → t i ≡ true → Has g.meta i (map (in_motion g) (select t k) ++ hs)) → (b : Bool) → t k ≡ b → (i ≡ k) ⊎ (i ≡ k → ⊥) → Has g.meta i (map (in_motion g) (cond b (k ∷ select t k) (select t k)) ++ hs)
     by_test ih true e (inl q) = subst (λ n. Has g.meta n (in_motion g k ∷ (map (in_motion g) (select t k) ++ hs))) (sym q) (has-here g k (map (in_motion g) (select t k) ++ hs))
     by_test ih true e (inr ne) = has-front g.meta i (in_motion g k) (map (in_motion g) (select t k) ++ hs) (ih (omega arith) passes)
-    by_test ih false e (inl q) = absurd (let p : t k ≡ true = subst (λ n. t n ≡ true) q passes in grind (e, p))
+    by_test ih false e (inl q) = absurd (let p : t k ≡ true = subst (λ n. t n ≡ true) q passes in grind (arith, e, p))
     by_test ih false e (inr ne) = ih (omega arith) passes
 
 is-moving : (i : ℕ) → i ≤ 14 → moving inner_group 0 0 i ≡ true
