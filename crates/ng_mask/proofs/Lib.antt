@@ -3,3 +3,6 @@ pub mod Bits
 pub mod Motion
 pub mod Fetches
 pub mod PopCounts
+pub mod RaceGroup
+pub mod Race
+pub mod Trading

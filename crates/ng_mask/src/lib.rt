@@ -12,4 +12,6 @@ pub use popping::pop;
 pub use pushing::push;
 
 #[cfg(test)]
+mod race_tests;
+#[cfg(test)]
 mod tests;
