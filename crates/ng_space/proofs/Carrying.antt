@@ -195,11 +195,16 @@ module _ (v w1 w2 : View) (s : IsWritten v 15) (s1 : Stores v 4176 8208 w1) wher
         unmapped = refl;
         low = omega arith;
         small = (let u = inner-units in omega arith);
-        parent = (let u = inner-units in omega arith, 15, refl, record {
-          known = omega arith;
-          holds = (let u = inner-units in let p = outer-units in omega arith);
-          least = λ lower l. let u = inner-units in let p = below-parent lower l in omega arith;
-        });
+        parent = (
+          let u = inner-units in omega arith,
+          15,
+          refl,
+          record {
+            known = omega arith;
+            holds = (let u = inner-units in let p = outer-units in omega arith);
+            least = λ lower l. let u = inner-units in let p = below-parent lower l in omega arith;
+          },
+        );
       };
       fits = (let a = inner-stride in let b = outer-stride in let r : stride inner_group * 15 ≡ 480 = ap (λ n. n * 15) a in omega arith);
       lower = omega arith;

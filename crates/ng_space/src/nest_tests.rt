@@ -13,10 +13,12 @@ use std::test::Fail;
 
 /// The first two metas of the area.
 const OUTER: u64 = 0x1018;
+
 const INNER: u64 = 0x1040;
 
 /// Where the groups begin, the inner one in the first slot of the outer.
 const BASE: u64 = 0x2000;
+
 const SLOT: u64 = 0x2010;
 
 // The last index 4, freeable, the class 15, and one page.
