@@ -117,6 +117,10 @@ written_next v w n less s told =
     }
 
 -- ---- the meta's cells
+not-inner : (g : Group) → Among g (outer_group ∷ []) → g.meta ≢ 4160
+not-inner g (inl e) q = absurd (let m : g.meta ≡ 4120 = ap (λ (x : Group). x.meta) e in omega arith)
+not-inner g (inr t) q = absurd (elim t [ ])
+
 pub builds-inner : (v : View) (b : ℕ) → Stands v nest_runs (outer_group ∷ []) → b < 40 → b % 4 ≡ 0 → Builds v (4160 + b)
 builds-inner v b s lb al = (
   omega arith,
@@ -129,10 +133,6 @@ builds-inner v b s lb al = (
     below = omega arith;
   }),
 )
-  where
-    not-inner : (g : Group) → Among g (outer_group ∷ []) → g.meta ≢ 4160
-    not-inner g (inl e) q = absurd (let m : g.meta ≡ 4120 = ap (λ (x : Group). x.meta) e in omega arith)
-    not-inner g (inr t) q = absurd (elim t [ ])
 
 module _ (v w1 w2 : View) (s : IsWritten v 15) (s1 : Stores v 4176 8208 w1) where
   is_1 : w1 ≡ built v 4176 8208
@@ -157,15 +157,11 @@ module _ (v w1 w2 : View) (s : IsWritten v 15) (s1 : Stores v 4176 8208 w1) wher
     slots_2 : HasSlots w2 s.cells
     slots_2 = (s.slots.0, ap (λ (u : View). u.held) is_2 ∙ ap (λ (u : View). u.held) is_1 ∙ s.slots.1)
 
-    unborn : (g : Group) → Among g (outer_group ∷ []) → g.meta ≢ 4160
-    unborn g (inl e) q = absurd (let m : g.meta ≡ 4120 = ap (λ (x : Group). x.meta) e in omega arith)
-    unborn g (inr t) q = absurd (elim t [ ])
-
     built_meta : BuiltMeta w2 inner_group 0
     built_meta = record {
       whole = refl;
       area = record { run = area_run; number = 1; noted = subst (Among area_run) (sym inner_2.runs) (inr (inl refl)); is_area = refl; page = refl; place = refl; below = omega arith };
-      unborn = λ g t. unborn g (subst (Among g) inner_2.groups t);
+      unborn = λ g t. not-inner g (subst (Among g) inner_2.groups t);
       live = omega arith;
       low = omega arith;
       kind = inl (record { low = omega arith; fits = (let u = inner-units in omega arith) });

@@ -1,4 +1,4 @@
--- The inner group of the trial of nesting ends.
+-- The inner group of the trial of nesting is looked at, and ends.
 use Rattle.std.proofs.Common.{◌≡◌, ◌⊎◌, ℕ, zero, suc, ◌+◌, ◌-◌, ◌*◌, ◌%◌, ◌<◌, ◌≤◌, ◌&&◌, eqb, leb, cond, Bool, true, false, List, [], ◌∷◌, ◌++◌, map, refl, sym, ap, ◌∙◌, subst, ⊎_elim, inl, inr, arith}
 use Rattle.std.specs.Int.{bit_at}
 use Rattle.std.specs.Prelude.{Some}
@@ -8,28 +8,19 @@ use Rattle.ng_geometry.proofs.Lists.{is_at-here}
 use Rattle.ng_group_moves.proofs.Publish.{bit_zero}
 use Rattle.ng_view.specs.Conditions.{Builds, Sees}
 use Rattle.ng_view.specs.LockSteps.{carrier, groups_but, moving, nest_of, outside, retired_nested, without_nest}
-use Rattle.ng_view.specs.Lists.{Among, find, is_at, select}
+use Rattle.ng_view.specs.Lists.{Among, find, select}
 use Rattle.ng_view.specs.Steps.{in_motion}
 use Rattle.ng_view.specs.declared.view.Group.{Group}
 use Rattle.ng_view.specs.declared.view.Held.{Held}
 use Rattle.ng_view.specs.declared.view.Nest.{Nest}
 use Rattle.ng_view.specs.declared.view.View.{View}
 use Rattle.ng_lock_moves.specs.Groups.{HasAllSlots, Retires}
+use Rattle.ng_lock_moves.specs.Loads.{Loads}
 use Rattle.ng_space.specs.Nests.{StandsNested, beside, inner_group, nest_runs, outer_group, outer_slot}
 use Rattle.ng_space.specs.Trials.{AreMetasBlank, BuildsAll, IsCleared, Stands}
 use Rattle.ng_space.proofs.Carrying.{builds-inner}
 use Rattle.ng_space.proofs.Endings.{stands-same}
-
--- some slot of that meta and index is among these
-abbrev Has : ℕ → ℕ → List Held → Type 0
-Has m i hs = (h : Held) × (find m i hs ≡ Some h)
-
-has-front : (m i : ℕ) (h : Held) (hs : List Held) → Has m i hs → Has m i (h ∷ hs)
-has-front m i h hs r = by_test (is_at m i h.place) refl
-  where
-    by_test : (b : Bool) → is_at m i h.place ≡ b → Has m i (h ∷ hs)
-    by_test true e = (h, ap (λ t. cond t (Some h) (find m i hs)) e)
-    by_test false e = (r.0, ap (λ t. cond t (Some h) (find m i hs)) e ∙ r.1)
+use Rattle.ng_space.proofs.Partings.{Has, has-front}
 
 has-here : (g : Group) (i : ℕ) (hs : List Held) → Has g.meta i (in_motion g i ∷ hs)
 has-here g i hs = (in_motion g i, ap (λ t. cond t (Some (in_motion g i)) (find g.meta i hs)) (is_at-here (record { group = g; index = i })))
@@ -45,6 +36,15 @@ has-selected g t (suc k) i hs lt passes = by_test (has-selected g t k i hs) (t k
     by_test ih false e (inl q) = absurd (let p : t k ≡ true = subst (λ n. t n ≡ true) q passes in grind (arith, e, p))
     by_test ih false e (inr ne) = ih (omega arith) passes
 
+-- ---- words of its meta are read
+pub looked_avail : (v w : View) (n : ℕ) → StandsNested v → Loads v 4184 n w → StandsNested w
+looked_avail v w n s told = subst StandsNested (sym (told.avail inner_group (subst (Among inner_group) (sym s.groups) (inl refl)) refl)) (record { runs = s.runs; nests = s.nests; groups = s.groups; next = s.next; metas = s.metas; slots = s.slots })
+
+pub looked_mem : (v w : View) (n : ℕ) → StandsNested v → Loads v 4176 n w → StandsNested w
+looked_mem v w n s told = subst StandsNested (sym (told.field (record { group = inner_group; there = subst (Among inner_group) (sym s.groups) (inl refl); offset = 16; place = refl; below = omega arith; no_mask = ((λ q. omega arith), (λ q. omega arith)) })))
+    (record { runs = s.runs; nests = s.nests; groups = s.groups; next = s.next; metas = s.metas; slots = s.slots })
+
+-- ---- it ends
 is-moving : (i : ℕ) → i ≤ 14 → moving inner_group 0 0 i ≡ true
 is-moving i le = subst (λ x. (leb i 14 && eqb (x + x) 0) ≡ true) (sym (bit_zero i)) (grind (arith, nat_tests))
 

@@ -24,23 +24,23 @@ abbrev pub has_pair : (v : View) → Stands v pair_runs (pair_group ∷ []) → 
 has_pair v s = record { group = pair_group; there = subst (Among pair_group) (sym s.groups) (inl refl); of_meta = refl }
 
 -- some slot of that meta and index is among these
-abbrev Has : ℕ → List Held → Type 0
-Has i hs = (h : Held) × (find 4120 i hs ≡ Some h)
+abbrev pub Has : ℕ → ℕ → List Held → Type 0
+Has m i hs = (h : Held) × (find m i hs ≡ Some h)
 
-has-front : (i : ℕ) (h : Held) (hs : List Held) → Has i hs → Has i (h ∷ hs)
-has-front i h hs r = by_test (is_at 4120 i h.place) refl
+pub has-front : (m i : ℕ) (h : Held) (hs : List Held) → Has m i hs → Has m i (h ∷ hs)
+has-front m i h hs r = by_test (is_at m i h.place) refl
   where
-    by_test : (b : Bool) → is_at 4120 i h.place ≡ b → Has i (h ∷ hs)
-    by_test true e = (h, ap (λ t. cond t (Some h) (find 4120 i hs)) e)
-    by_test false e = (r.0, ap (λ t. cond t (Some h) (find 4120 i hs)) e ∙ r.1)
+    by_test : (b : Bool) → is_at m i h.place ≡ b → Has m i (h ∷ hs)
+    by_test true e = (h, ap (λ t. cond t (Some h) (find m i hs)) e)
+    by_test false e = (r.0, ap (λ t. cond t (Some h) (find m i hs)) e ∙ r.1)
 
-has-fetched : (i : ℕ) (g : Group) (is : List ℕ) (hs : List Held) → Has i hs → Has i (map (in_motion g) is ++ hs)
+has-fetched : (i : ℕ) (g : Group) (is : List ℕ) (hs : List Held) → Has 4120 i hs → Has 4120 i (map (in_motion g) is ++ hs)
 has-fetched i g [] hs r = r
-has-fetched i g (j ∷ is) hs r = has-front i (in_motion g j) (map (in_motion g) is ++ hs) (has-fetched i g is hs r)
+has-fetched i g (j ∷ is) hs r = has-front 4120 i (in_motion g j) (map (in_motion g) is ++ hs) (has-fetched i g is hs r)
 
 -- both slots are there
 abbrev pub HasBoth : View → Type 0
-HasBoth v = Has 0 v.held × Has 1 v.held
+HasBoth v = Has 4120 0 v.held × Has 4120 1 v.held
 
 pub all_slots : (v : View) → Stands v pair_runs (pair_group ∷ []) → HasBoth v → HasAllSlots v 4120
 all_slots v s both = record { live = has_pair v s; each = slots }
@@ -64,7 +64,7 @@ module _ (v w : View) (hand : Caller) (slot : Token) (stands : Stands v pair_run
 
   pub came_both : HasBoth w
   came_both = subst HasBoth (sym came) (
-    has-front 0 has.held v.held (in_motion pair_group 0, first),
+    has-front 4120 0 has.held v.held (in_motion pair_group 0, first),
     (has.held, ap (λ t. cond t (Some has.held) (find 4120 1 v.held)) (subst (λ m. is_at m 1 has.held.place ≡ true) meta (subst (λ i. is_at slot.meta i has.held.place ≡ true) index (find_among slot.meta slot.index hand.view.held has.held has.found).1))),
   )
 

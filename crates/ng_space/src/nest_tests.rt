@@ -6,6 +6,7 @@ ghost use Rattle.ng_space.specs.Trials.{AreMetasBlank, Stands, area_run, trial_s
 
 use crate::lock_tests::{AREA, clear, make_area, start};
 use crate::{Blank, LockSeat, Name, Space};
+use ng_meta::avail_word;
 use std::alloc::Global;
 use std::marker::Brand;
 use std::process::Abort;
@@ -69,6 +70,16 @@ fn build_inner<N: Name>(space: &Space<N>, seat: &mut LockSeat<N>)
     space.publish(seat, INNER, 1, 0);
 }
 
+// The inner group is live, without a free slot, and begins at the slot's start.
+fn look<N: Name, R: Abort>(rt: &R, space: &Space<N>, seat: &mut LockSeat<N>)
+    requires start { N.start ≡ trial_start }
+    requires nested { StandsNested seat.old }
+    ensures { StandsNested seat.new }
+{
+    assert_eq!(rt; space.load_seat(seat, INNER + 24), avail_word(1, 0));
+    assert_eq!(rt; space.load_seat(seat, INNER + 16), SLOT);
+}
+
 // The slot that carried the inner group is in motion again.
 fn end_inner<N: Name>(space: &Space<N>, seat: &mut LockSeat<N>)
     requires start { N.start ≡ trial_start }
@@ -114,6 +125,7 @@ fn nest_once<N: Name, R: Abort>(rt: &R, alloc: Global, blank: Blank) -> Result<(
     build_outer(&space, &mut lock);
     write_slot(&space, &mut lock);
     build_inner(&space, &mut lock);
+    look(rt, &space, &mut lock);
     end_inner(&space, &mut lock);
     end_outer(&space, &mut lock);
     let (image, _books) = space.close(lock, hands);
