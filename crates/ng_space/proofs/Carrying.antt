@@ -1,16 +1,14 @@
 -- The inner group of the trial of nesting, as it comes into its slot and lives there.
 use Rattle.std.proofs.Common.{◌≡◌, ◌≢◌, ℕ, ◌+◌, ◌*◌, ◌%◌, ◌<◌, ◌≤◌, true, List, [], ◌∷◌, ◌++◌, map, refl, sym, ap, ◌∙◌, subst, ⊎_elim, inl, inr, arith}
-use Rattle.std.specs.Int.{bit_at}
 use Rattle.std.specs.Prelude.{Some, None, nat_lt}
 use Rattle.std.proofs.lemmas.Bool.{agree_below_at, cases_eq, cases_lt, ltb-true}
 use Rattle.ng_class.specs.Slot as slot
 use Rattle.ng_class.specs.Class as class
 use Rattle.ng_class.specs.Class.{IsLeastClass, units_of}
-use Rattle.ng_group_moves.proofs.Publish.{bit_zero}
 use Rattle.ng_view.specs.Conditions.{Builds, Sees}
-use Rattle.ng_view.specs.LockSteps.{built, cells_off, moving}
+use Rattle.ng_view.specs.LockSteps.{built, moving}
 use Rattle.ng_view.specs.Lists.{Among, edit, find, select, without}
-use Rattle.ng_view.specs.Places.{header, reach, slot_end, stride, units}
+use Rattle.ng_view.specs.Places.{header, slot_end, stride, units}
 use Rattle.ng_view.specs.Slots.{IsPlain}
 use Rattle.ng_view.specs.Steps.{forget, in_motion, stored, wrote}
 use Rattle.ng_view.specs.declared.view.Group.{Group}
@@ -21,7 +19,7 @@ use Rattle.ng_meta.specs.Place.{IsMetaPlace}
 use Rattle.ng_lock_moves.specs.Groups.{BuildsNested, BuiltMeta, BuiltNested, IsLowHeader, Publishes, slot_published}
 use Rattle.ng_lock_moves.specs.Stores.{FitsMotion, IsInMotion, Stores}
 use Rattle.ng_lock_moves.proofs.Knowing.{off_else, sees-built, sees-built_else, still_known}
-use Rattle.ng_space.specs.Nests.{HasSlots, IsWritten, StandsNested, beside, inner_group, nest_runs, outer_group, outer_slot}
+use Rattle.ng_space.specs.Nests.{HasSlots, IsWritten, StandsNested, inner_group, nest_runs, outer_group, outer_slot}
 use Rattle.ng_space.specs.Trials.{AreMetasBlank, Stands, area_run, trial_start}
 use Rattle.ng_space.proofs.Nests.{no-bits, outer-stride, outer-units}
 use Rattle.ng_space.proofs.Trials.{stands-built}

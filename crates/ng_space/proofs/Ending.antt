@@ -1,13 +1,12 @@
 -- The inner group of the trial of nesting is looked at, and ends.
-use Rattle.std.proofs.Common.{◌≡◌, ◌⊎◌, ℕ, zero, suc, ◌+◌, ◌-◌, ◌*◌, ◌%◌, ◌<◌, ◌≤◌, ◌&&◌, eqb, leb, cond, Bool, true, false, List, [], ◌∷◌, ◌++◌, map, refl, sym, ap, ◌∙◌, subst, ⊎_elim, inl, inr, arith}
-use Rattle.std.specs.Int.{bit_at}
+use Rattle.std.proofs.Common.{◌≡◌, ◌⊎◌, ℕ, zero, suc, ◌+◌, ◌-◌, ◌*◌, ◌<◌, ◌≤◌, ◌&&◌, eqb, leb, cond, Bool, true, false, List, [], ◌∷◌, ◌++◌, map, refl, sym, ap, ◌∙◌, subst, inl, inr, arith}
 use Rattle.std.specs.Prelude.{Some}
 use Rattle.std.proofs.lemmas.Bool.{cases_eq}
 use Rattle.std.proofs.lemmas.Bool.Decides.{nat_tests}
 use Rattle.ng_geometry.proofs.Lists.{is_at-here}
 use Rattle.ng_group_moves.proofs.Publish.{bit_zero}
 use Rattle.ng_view.specs.Conditions.{Builds, Sees}
-use Rattle.ng_view.specs.LockSteps.{carrier, groups_but, moving, nest_of, outside, retired_nested, without_nest}
+use Rattle.ng_view.specs.LockSteps.{carrier, groups_but, moving, nest_of, outside, without_nest}
 use Rattle.ng_view.specs.Lists.{Among, find, select}
 use Rattle.ng_view.specs.Steps.{in_motion}
 use Rattle.ng_view.specs.declared.view.Group.{Group}
@@ -16,7 +15,7 @@ use Rattle.ng_view.specs.declared.view.Nest.{Nest}
 use Rattle.ng_view.specs.declared.view.View.{View}
 use Rattle.ng_lock_moves.specs.Groups.{HasAllSlots, Retires}
 use Rattle.ng_lock_moves.specs.Loads.{Loads}
-use Rattle.ng_space.specs.Nests.{StandsNested, beside, inner_group, nest_runs, outer_group, outer_slot}
+use Rattle.ng_space.specs.Nests.{StandsNested, beside, inner_group, nest_runs, outer_group}
 use Rattle.ng_space.specs.Trials.{AreMetasBlank, BuildsAll, IsCleared, Stands}
 use Rattle.ng_space.proofs.Carrying.{builds-inner}
 use Rattle.ng_space.proofs.Endings.{stands-same}

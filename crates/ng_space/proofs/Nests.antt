@@ -1,22 +1,16 @@
 -- The outer group of the trial of nesting, as it is built.
-use Rattle.std.proofs.Common.{◌≡◌, ◌≢◌, ℕ, zero, suc, ◌+◌, ◌*◌, ◌%◌, ◌<◌, ◌≤◌, leb, true, List, [], ◌∷◌, ◌++◌, map, refl, sym, ap, ◌∙◌, subst, inl, inr, arith}
+use Rattle.std.proofs.Common.{◌≡◌, ◌≢◌, ℕ, ◌+◌, ◌*◌, ◌%◌, ◌<◌, ◌≤◌, true, List, [], ◌∷◌, refl, sym, ap, subst, inl, inr, arith}
 use Rattle.std.specs.Int.{bit_at}
-use Rattle.std.specs.Prelude.{Some}
-use Rattle.std.proofs.lemmas.Nat.Bits.{bit_at_above}
 use Rattle.ng_class.specs.Slot as slot
 use Rattle.ng_class.specs.Class as class
 use Rattle.ng_group_moves.proofs.Publish.{bit_zero}
 use Rattle.ng_view.specs.Conditions.{Built, Sees}
-use Rattle.ng_view.specs.LockSteps.{built, cells_off, moving, run_published}
-use Rattle.ng_view.specs.Lists.{Among, count_of, find, select}
+use Rattle.ng_view.specs.LockSteps.{built, cells_off, run_published}
+use Rattle.ng_view.specs.Lists.{Among}
 use Rattle.ng_view.specs.Places.{header, stride, units}
 use Rattle.ng_view.specs.Slots.{IsPlain}
-use Rattle.ng_view.specs.Steps.{in_motion}
 use Rattle.ng_view.specs.declared.view.Group.{Group}
-use Rattle.ng_view.specs.declared.view.Run.{Run}
 use Rattle.ng_view.specs.declared.view.View.{View}
-use Rattle.ng_view.specs.declared.view.Start.{Start}
-use Rattle.ng_meta.specs.Place.{IsMetaPlace}
 use Rattle.ng_lock_moves.specs.Groups.{BuildsRun, Publishes}
 use Rattle.ng_lock_moves.specs.Notes.{NotesRun, plain_run}
 use Rattle.ng_lock_moves.specs.Stores.{Stores}

@@ -1,4 +1,4 @@
-use Rattle.std.proofs.Common.{[], ◌+◌, ◌*◌, refl, inl, inr, arith}
+use Rattle.std.proofs.Common.{[], ◌+◌, ◌*◌, refl, inr, arith}
 use Rattle.ng_space.proofs.Carrying.{base_slots, base_written, slot-fits, written_next}
 use Rattle.ng_space.proofs.nest_tests.write_slot.Goals as goal
 
