@@ -1,5 +1,5 @@
 -- What the lock's seat knows while the two threads race.
-use Rattle.std.proofs.Common.{◌≡◌, ℕ, ◌+◌, ◌*◌, ◌%◌, ◌^◌, ◌<◌, ◌≤◌, cond, List, [], ◌∷◌, ◌++◌, map, refl, sym, ap, ◌∙◌, subst, ⊎_elim, inl, inr, arith}
+use Rattle.std.proofs.Common.{◌≡◌, ℕ, ◌+◌, ◌*◌, ◌%◌, ◌^◌, ◌<◌, ◌≤◌, cond, List, [], ◌∷◌, ◌++◌, refl, sym, ap, ◌∙◌, subst, ⊎_elim, inl, inr, arith}
 use mathlib.Core.Bool.{true≢false}
 use Rattle.std.specs.Prelude.{Some}
 use Rattle.std.specs.Int.{bit_at}
@@ -9,21 +9,20 @@ use Rattle.std.proofs.lemmas.Nat.Bits.{bit_at-zero}
 use Rattle.ng_geometry.proofs.Lists.{is_at-here}
 use Rattle.ng_view.specs.Conditions.{IsBlanked, IsSettled, Sees}
 use Rattle.ng_view.specs.Lists.{Among, find}
-use Rattle.ng_view.specs.LockSteps.{AreOut, bits_of, bits_pushed, bits_stocked, freed_taken, let_go}
-use Rattle.ng_view.specs.Steps.{in_motion, read}
-use Rattle.ng_view.specs.declared.view.Group.{Group}
+use Rattle.ng_view.specs.LockSteps.{AreOut, bits_of, let_go}
+use Rattle.ng_view.specs.Steps.{in_motion}
 use Rattle.ng_view.specs.declared.view.Held.{Held}
 use Rattle.ng_view.specs.declared.view.Layout.{Layout}
 use Rattle.ng_view.specs.declared.view.Run.{Run}
 use Rattle.ng_view.specs.declared.view.View.{View}
 use Rattle.ng_lock_moves.specs.Notes.{plain_run}
 use Rattle.ng_lock_moves.specs.Fetches.{HasGroup, MayPutBack, PushesFreed}
-use Rattle.ng_space.specs.Trials.{AreMetasBlank, Stands, area_run}
+use Rattle.ng_space.specs.Trials.{area_run}
 use Rattle.ng_space.specs.Passed.{with_slot}
 use Rattle.ng_space.specs.Callers.{Caller}
 use Rattle.ng_space.specs.Tokens.{HasSlot, Token}
-use Rattle.ng_mask.specs.Fetches.{Captures, FindsNone, MayStock, Stocks, Takes, TakesLowest, bare_noted, slots_of}
-use Rattle.ng_mask.specs.Race.{Serves, race_group, race_runs}
+use Rattle.ng_mask.specs.Fetches.{Captures, FindsNone, MayStock, Stocks, Takes, TakesLowest, slots_of}
+use Rattle.ng_mask.specs.Race.{Serves, race_group}
 use Rattle.ng_mask.proofs.Motion.{SplitsInto, bits_of-pow, others_are_left, part_is_out}
 use Rattle.ng_mask.proofs.RaceGroup.{race_plain}
 

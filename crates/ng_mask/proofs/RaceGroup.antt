@@ -18,7 +18,6 @@ use Rattle.ng_lock_moves.specs.Stores.{Stores}
 use Rattle.ng_lock_moves.proofs.Knowing.{off_else, sees-built, sees-built_else, sees-run_else}
 use Rattle.ng_space.specs.Trials.{AreMetasBlank, Stands, area_run}
 use Rattle.ng_space.proofs.Pairs.{pair_1, pair_2}
-use Rattle.ng_space.proofs.Pairs as pairs
 use Rattle.ng_space.proofs.Trials.{IsZeroPage, store_meta, zero-run}
 use Rattle.ng_mask.specs.Race.{Serves, race_group, race_runs}
 

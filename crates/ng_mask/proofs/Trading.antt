@@ -1,5 +1,5 @@
 -- Pops and pushes send and take in no parcel.
-use Rattle.std.proofs.Common.{◌≡◌, ℕ, zero, suc, refl, sym, ap, ◌∙◌, subst}
+use Rattle.std.proofs.Common.{◌≡◌, ℕ, zero, suc, refl, ap, ◌∙◌, subst}
 use Rattle.ng_view.specs.declared.view.View.{View}
 use Rattle.ng_mask.specs.Pops as pops
 use Rattle.ng_mask.specs.Pops.{HasPopCause}
@@ -7,7 +7,6 @@ use Rattle.ng_mask.specs.Pushes as pushes
 use Rattle.ng_mask.specs.Pushes.{HasPushCause, Pushed}
 use Rattle.ng_mask.specs.declared.outcome.Pop.{Pop}
 use Rattle.ng_mask.specs.declared.outcome.Pop.TheVariants.{Won, Bare, Other, Lost}
-use Rattle.ng_mask.specs.declared.outcome.Needs.{Needs}
 use Rattle.ng_mask.specs.declared.outcome.Needs.TheVariants as needs
 use Rattle.ng_mask.specs.declared.outcome.Push.{Push}
 use Rattle.ng_mask.specs.declared.outcome.Push.TheVariants.{Done, Left}

@@ -6,6 +6,7 @@ ghost use Rattle.ng_space.specs.Trials.{AreMetasBlank, Stands, area_run, trial_s
 ghost use Rattle.ng_mask.specs.Race.{Serves};
 
 use crate::{Pop, Push, capture, pop, pop_core, push, stock, take};
+use ng_meta::avail_word;
 use ng_space::{Blank, Hand, LockSeat, Name, Slot, Space, Start};
 use std::alloc::Global;
 use std::marker::Brand;
@@ -28,7 +29,8 @@ const FLAGS: u32 = 15 + (1 << 5) + (CLASS << 6) + (1 << 12);
 /// The bits of the group's slots.
 const ALL: u32 = 0xffff;
 
-const ROUNDS: u32 = 1000;
+// So many that the threads meet, although one starts later.
+const ROUNDS: u32 = 100_000;
 
 fn start() -> Start
     ensures { result ≡ trial_start }
@@ -70,30 +72,32 @@ fn build_group<N: Name>(space: &Space<N>, seat: &mut LockSeat<N>)
     space.publish(seat, META, CLASS, ALL);
 }
 
-// The lock's seat takes slots for callers and refills avail, as it does for each that finds no slot.
-fn serve<N: Name>(space: &Space<N>, seat: &mut LockSeat<N>)
+// What a lock's holder does for callers that find no slot, and at times both masks change places.
+fn serve<N: Name, R: Abort>(rt: &R, space: &Space<N>, seat: &mut LockSeat<N>)
     requires start { N.start ≡ trial_start }
     requires serves { Serves seat.old }
     ensures serves { Serves seat.new }
 {
     for round in 0..ROUNDS {
         if round % 16 == 0 {
-            swap_masks(space, seat);
+            swap_masks(rt, space, seat);
         } else {
-            serve_once(space, seat);
+            serve_once(rt, space, seat);
         }
     }
 }
 
 // The lowest slot in avail goes to freed, or the slots of freed go to an empty avail.
-fn serve_once<N: Name>(space: &Space<N>, seat: &mut LockSeat<N>)
+fn serve_once<N: Name, R: Abort>(rt: &R, space: &Space<N>, seat: &mut LockSeat<N>)
     requires start { N.start ≡ trial_start }
     requires serves { Serves seat.old }
     ensures serves { Serves seat.new }
 {
     match pop_core(space, seat, META) {
         Some(index) => {
-            space.push_parent(seat, META, 1 << index);
+            let bit = 1 << index;
+            let freed = space.push_parent(seat, META, bit);
+            assert_eq!(rt; freed & bit, 0, "slot {index} was in freed");
         }
         None => {
             let taken = take(space, seat, META, 31);
@@ -103,12 +107,13 @@ fn serve_once<N: Name>(space: &Space<N>, seat: &mut LockSeat<N>)
 }
 
 // The slots of the two masks change places.
-fn swap_masks<N: Name>(space: &Space<N>, seat: &mut LockSeat<N>)
+fn swap_masks<N: Name, R: Abort>(rt: &R, space: &Space<N>, seat: &mut LockSeat<N>)
     requires start { N.start ≡ trial_start }
     requires serves { Serves seat.old }
     ensures serves { Serves seat.new }
 {
     let (avail, freed) = capture(space, seat, META);
+    assert_eq!(rt; avail & freed, 0);
     stock(space, seat, META, freed);
     if avail != 0 {
         space.push_parent(seat, META, avail);
@@ -159,7 +164,7 @@ fn two_threads_share_a_group(rt: HostRuntime) -> Result<(), Fail> {
     race::<Brand, _>(&rt, alloc, blank)
 }
 
-fn race<N: Name + Send + Sync, R: Threads + Abort>(
+fn race<N: Name + Send + Sync, R: Threads + Abort + Sync>(
     rt: &R,
     alloc: Global,
     blank: Blank,
@@ -172,15 +177,18 @@ fn race<N: Name + Send + Sync, R: Threads + Abort>(
     let (space, mut lock, mut hands) = Space::<N>::open(alloc, blank)?;
     make_area(&space, &mut lock);
     build_group(&space, &mut lock);
+    // A hand pushes no slot into a freed mask of 0.
+    serve_once(rt, &space, &mut lock);
     let hand = &mut hands[0];
     let kept = run_both(rt, &space, &mut lock, hand);
     gather(rt, &space, &mut lock, hand, kept);
     let (image, _books) = space.close(lock, hands);
+    assert_eq!(rt; image.word(META + 24), avail_word(CLASS, 0));
     assert_eq!(rt; image.word(META + 28), 0);
     Ok(())
 }
 
-fn run_both<N: Name + Send + Sync, R: Threads>(
+fn run_both<N: Name + Send + Sync, R: Threads + Abort + Sync>(
     rt: &R,
     space: &Space<N>,
     seat: &mut LockSeat<N>,
@@ -192,7 +200,11 @@ fn run_both<N: Name + Send + Sync, R: Threads>(
     ensures kept { IfSome result (HasSlot hand.new) }
     ensures hand { HasEntered hand.old hand.new }
 {
-    let ((), kept) = join_mut(rt, &mut || serve(space, seat), &mut || trade(space, hand));
+    let ((), kept) = join_mut(
+        rt,
+        &mut || serve(rt, space, seat),
+        &mut || trade(space, hand),
+    );
     kept
 }
 
