@@ -13,7 +13,9 @@ use Rattle.ng_view.specs.declared.view.Held.{Held}
 use Rattle.ng_view.specs.declared.view.View.{View}
 use Rattle.ng_view.specs.declared.view.Start.{Start}
 use Rattle.ng_view.specs.Lists.{find}
-use Rattle.ng_view.specs.Cells.{cell, avail, freed, group_at}
+use Rattle.ng_view.specs.Cells.{cell, tag, avail, freed, marked, group_at}
+use Rattle.ng_view.specs.Slots.{IsPlain}
+use Rattle.ng_geometry.proofs.Facts.{marked_live}
 use Rattle.ng_view.specs.Places.{Owns, slot_start, stride}
 use Rattle.ng_view.specs.Rule.{Rule}
 use Rattle.ng_view.specs.Blocks.{IsSet, IsBlock}
@@ -61,15 +63,23 @@ lowest n some_bit =
     let a' : y1 ≡ min y0 y2 = a in let t' : y1 ≡ 1 = t.1 in let b' : y2 ≡ 1 = b in let c' : y0 < 2 = c in
     (t.0, let d : y0 ≡ 1 = omega (arith, a', b', t', c') in d)
 
+-- a bit of a live group's avail mask marks its slot
+some_mark : (ws : List ℕ) (m i : ℕ) → 0 < tag ws m → bit_at (avail ws m) i ≡ 1 → 0 < marked ws m i
+some_mark ws m i live one =
+    let a = marked_live (tag ws m) (avail ws m) (freed ws m) i live in
+    let x : ℕ = marked ws m i in let y : ℕ = bit_at (avail ws m) i in let z : ℕ = bit_at (freed ws m) i in
+    let a' : x ≡ y + z = a in let b' : y ≡ 1 = one in
+    omega (arith, a', b')
+
 abbrev pub Popping : ℕ → ℕ → ℕ → View → ℕ → View → Type 0
-Popping m seen i v n w = MatchBool (eqb n seen) ((g : Group) × (g.meta ≡ m) × (g.tag ≡ seen / 4294967296) × (w ≡ read (popped v g i) (m + 24) n)) (w ≡ read v (m + 24) n)
+Popping m seen i v n w = MatchBool (eqb n seen) ((g : Group) × (g.meta ≡ m) × (g.tag ≡ seen / 4294967296) × (w ≡ read (popped v g i) (m + 24) n) × IsPlain g) (w ≡ read v (m + 24) n)
 
 pub pops_may : (key : Start) (id : ℕ) (v : View) (m seen : ℕ) → (v.books ≡ [] → ⊥) → m % 4 ≡ 0 → 0 < seen / 4294967296 → 0 < seen % 4294967296
     → May key id v ((m + 24) / 4) (λ n. either (eqb n seen) (cleared seen (trailing_zeros w32 (seen % 4294967296))) n) (Popping m seen (trailing_zeros w32 (seen % 4294967296)))
 pops_may key id v m seen caller al tagged some_bit ws vs kept e fits = by_test (eqb (avail ws m) seen) refl
   where
     by_test : (b : Bool) → eqb (avail ws m) seen ≡ b → (w : View) × Rule key (set ws ((m + 24) / 4) (either b (cleared seen (trailing_zeros w32 (seen % 4294967296))) (avail ws m))) (set vs id w)
-        × MatchBool b ((g : Group) × (g.meta ≡ m) × (g.tag ≡ seen / 4294967296) × (w ≡ read (popped v g (trailing_zeros w32 (seen % 4294967296))) (m + 24) (avail ws m))) (w ≡ read v (m + 24) (avail ws m))
+        × MatchBool b ((g : Group) × (g.meta ≡ m) × (g.tag ≡ seen / 4294967296) × (w ≡ read (popped v g (trailing_zeros w32 (seen % 4294967296))) (m + 24) (avail ws m)) × IsPlain g) (w ≡ read v (m + 24) (avail ws m))
     by_test true is =
         let q : avail ws m ≡ seen = tested (avail ws m) seen is in
         let i = trailing_zeros w32 (seen % 4294967296) in
@@ -79,7 +89,7 @@ pops_may key id v m seen caller al tagged some_bit ws vs kept e fits = by_test (
           with_reading key (set ws ((m + 24) / 4) (cleared seen i)) vs id v w (m + 24) (avail ws m) e
               (subst (λ n. Rule key (set ws ((m + 24) / 4) (cleared n i)) (set vs id w)) q
               (pops key ws vs id v kept e m i al l.0 (subst (λ n. 0 < n / 4294967296) (sym q) tagged) (ap (λ n. bit_at n i) q ∙ l.1) fits caller)),
-          (group_at ws m, refl, ap (λ n. n / 4294967296) q, refl),
+          (group_at ws m, refl, ap (λ n. n / 4294967296) q, refl, kept.slots.plain m i al l.0 (some_mark ws m i (subst (λ n. 0 < n / 4294967296) (sym q) tagged) (ap (λ n. bit_at n i) q ∙ l.1))),
         )
     by_test false is = (read v (m + 24) (avail ws m), with_reading key (set ws ((m + 24) / 4) (avail ws m)) vs id v v (m + 24) (avail ws m) e (stays key ws vs id ((m + 24) / 4) v kept e), refl)
 
