@@ -1,6 +1,7 @@
 -- How large a new group is, and how far its slots are in use.
 use Rattle.std.specs.Prelude.{◌≡◌, ◌≢◌, ◌⊎◌, ◌+◌, ◌-◌, ◌*◌, ◌/◌, ◌<◌, ◌≤◌, ◌&&◌, ◌||◌, ℕ, Bool, min, not, if◌then◌else◌, nat_lt, nat_le}
 use Rattle.ng_class.specs.Class.{units_of}
+use Rattle.ng_terms.specs.Accounts.{pages_for}
 use Rattle.ng_policy.specs.declared.ask.Ask.{Ask}
 use Rattle.ng_shelf.specs.declared.shape.RunShape.{RunShape}
 
@@ -16,16 +17,12 @@ IsNestedSize class count = group_bytes class count ≤ 2048
 abbrev pub pages_of : ℕ → ℕ
 pages_of bytes = (bytes + 4095) / 4096
 
--- the pages of a run for one block: its bytes, the 4 of a header, and the group's 16
-abbrev pub own_pages : ℕ → ℕ
-own_pages bytes = pages_of (bytes + 20)
-
 -- one slot on such a run is no worse: the run is smaller than a slot with its group, or it is large and so many slots
 -- would be more than half of those that are live
 unfoldable pub is_no_worse : Ask → ℕ → ℕ → Bool
 is_no_worse ask bytes count =
-    nat_lt (4096 * own_pages bytes) (group_bytes ask.class 1)
-    || nat_le 16384 (4096 * own_pages bytes) && nat_lt (ask.usage + ask.near) (2 * count)
+    nat_lt (4096 * pages_for bytes) (group_bytes ask.class 1)
+    || nat_le 16384 (4096 * pages_for bytes) && nat_lt (ask.usage + ask.near) (2 * count)
 
 -- the group is made of one slot: the class isn't bouncing, few slots are wanted, and one is no worse
 unfoldable pub makes_one : Ask → ℕ → ℕ → Bool
@@ -34,7 +31,7 @@ makes_one ask bytes count = not ask.bouncing && nat_le count 7 && is_no_worse as
 -- the slots and the pages of a new group with a run of its own
 unfoldable pub shape_of : Ask → ℕ → ℕ → RunShape
 shape_of ask bytes count =
-    if makes_one ask bytes count then record { count = 1; pages = own_pages bytes }
+    if makes_one ask bytes count then record { count = 1; pages = pages_for bytes }
     else record { count = count; pages = pages_of (group_bytes ask.class count) }
 
 -- the slots up to an index end in the group's first page

@@ -1,5 +1,6 @@
 -- Frames: what the cells of a slot say of a block, and where a block is put.
-use Rattle.std.specs.Prelude.{◌≡◌, ◌⊎◌, ℕ, ◌+◌, ◌-◌, ◌*◌, ◌/◌, ◌%◌, ◌^◌, ◌<◌, ◌≤◌, max, min, leb, cond, bit_and, bit_or, Option, Some, None}
+use Rattle.std.specs.Prelude.{◌≡◌, ◌⊎◌, ℕ, ◌+◌, ◌-◌, ◌*◌, ◌/◌, ◌%◌, ◌^◌, ◌<◌, ◌≤◌, max, min, leb, cond, Option, Some, None}
+use Rattle.ng_header.specs.Cycle.{cycle_of}
 use Rattle.ng_view.specs.declared.view.Held.{Held}
 use Rattle.ng_view.specs.Places.{slot_start, slot_end, room}
 use Rattle.ng_view.specs.Blocks.{Knows, Carries}
@@ -37,19 +38,6 @@ abbrev pub IsFramed : Held → ℕ → ℕ → Type 0
 IsFramed h p n = (a x : ℕ) × (a + 4 ≡ p) × Knows a x h × Frames h p n x
 
 -- ---- where a block is put
--- m with all bits below its highest one, for m below 256
-abbrev pub spread : ℕ → ℕ
-spread m = let a : ℕ = bit_or m (m / 2) in let b : ℕ = bit_or a (a / 4) in bit_or b (b / 16)
-
--- the offset that is no more than slack
-abbrev pub fold : ℕ → ℕ → ℕ
-fold o slack = cond (leb o slack) o (let b : ℕ = bit_and o (spread slack) in cond (leb b slack) b (b - (slack + 1)))
-
--- the next offset in units, by the field of the header that was found at the start, or by the counter
-abbrev pub cycle : Option ℕ → ℕ → ℕ → ℕ
-cycle (Some f) slack counter = fold (bit_and (f + 1) 255) slack
-cycle None slack counter = fold (bit_and counter 255) slack
-
 -- the units that a request of n leaves in the room
 abbrev pub slack_of : Held → ℕ → ℕ
 slack_of h n = (room h.place.group - 4 - n) / 16
@@ -68,4 +56,4 @@ pub record IsGiven (h : Held) (p n a x counter : ℕ) : Type 0 where
   -- the slot has room for the request, with what the align may take of it
   pub fits : n + max a 16 ≤ room h.place.group + 12
   pub framed : IsFramed h p n
-  pub put : IsPut h p a (cycle (field_of x) (slack_of h ((n + max a 16) - 16)) counter)
+  pub put : IsPut h p a (cycle_of (field_of x) (slack_of h ((n + max a 16) - 16)) counter)
