@@ -3,3 +3,4 @@ pub mod Queue
 pub mod Parents
 pub mod Carriers
 pub mod Shape
+pub mod Stock

@@ -1,0 +1,7 @@
+pub mod Groups
+pub mod Rings
+pub mod Metas
+pub mod Runs
+pub mod Usage
+pub mod Carriers
+pub mod Standing

@@ -1,0 +1,22 @@
+-- What ties the rings to the groups and to what the lock's seat noted: the list law.
+use Rattle.std.specs.Prelude.{ℕ, ◌<◌, List, Contains, drop}
+use Rattle.ng_lists.specs.Rings.{RingTable, IsListed, ring_of}
+use Rattle.ng_view.specs.Lists.{Among}
+use Rattle.ng_view.specs.declared.view.Group.{Group}
+use Rattle.ng_ledger.specs.Groups.{IsOfClass}
+
+-- the meta is in the ring of a class
+abbrev pub IsIn : RingTable → ℕ → ℕ → Type 0
+IsIn table class m = Contains (ring_of table class) m
+
+-- each meta of a ring has a live group of the ring's class; the metas of the rings are the listed ones; and those
+-- after a ring's first have avail noted as 0
+pub record AreRinged (gs : List Group) (listed zero : List ℕ) (table : RingTable) : Type 0 where
+  pub grouped : (class m : ℕ) → class < 48 → IsIn table class m → IsOfClass gs m class
+  pub noted_listed : (class m : ℕ) → class < 48 → IsIn table class m → Among m listed
+  pub ringed : (m : ℕ) → Among m listed → IsListed table m
+  pub tails : (class m : ℕ) → class < 48 → Contains (drop 1 (ring_of table class)) m → Among m zero
+
+-- every meta of the ring has avail noted as 0, the first too
+abbrev pub IsBare : List ℕ → RingTable → ℕ → Type 0
+IsBare zero table class = (m : ℕ) → IsIn table class m → Among m zero

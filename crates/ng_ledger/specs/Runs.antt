@@ -1,0 +1,34 @@
+-- What ties the mapper's runs to the noted ones.
+use Rattle.std.specs.Prelude.{◌≡◌, ◌⊎◌, ℕ, ◌<◌, true, List, Contains}
+use Rattle.ng_mapper.specs.Runs as mapper
+use Rattle.ng_view.specs.Lists.{Among}
+use Rattle.ng_view.specs.declared.view.Group.{Group}
+use Rattle.ng_view.specs.declared.view.Run.{Run}
+
+-- the run at this address and of these pages is noted
+pub record IsNoted (noted : List Run) (a pages : ℕ) : Type 0 where
+  pub run : Run
+  pub there : Among run noted
+  pub begins : run.addr ≡ a
+  pub long : run.pages ≡ pages
+
+-- the noted runs are the mapper's live ones, and no two begin at one address
+pub record AreMapped (noted : List Run) (live : List mapper.Run) : Type 0 where
+  pub once : (r s : Run) → Among r noted → Among s noted → r.addr ≡ s.addr → r ≡ s
+  pub known : (a pages : ℕ) → Contains live (a, pages) → IsNoted noted a pages
+  pub mapped : (r : Run) → Among r noted → Contains live (r.addr, r.pages)
+
+-- a live group with pages of its own begins at the run
+pub record HasRun (gs : List Group) (a : ℕ) : Type 0 where
+  pub group : Group
+  pub there : Among group gs
+  pub begins : group.base ≡ a
+  pub paged : 0 < group.maplen
+
+-- each noted run but those at an address is an area, or the run of a live group
+abbrev pub AreServedBut : ℕ → List Run → List Group → Type 0
+AreServedBut a noted gs = (r : Run) → Among r noted → (r.addr ≡ a) ⊎ (r.area ≡ true) ⊎ HasRun gs r.addr
+
+-- each noted run is
+abbrev pub AreServed : List Run → List Group → Type 0
+AreServed noted gs = (r : Run) → Among r noted → (r.area ≡ true) ⊎ HasRun gs r.addr
