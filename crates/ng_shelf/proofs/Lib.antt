@@ -6,3 +6,4 @@ pub mod PutLemmas
 pub mod TakeLemmas
 pub mod ShownLemmas
 pub mod ShapeLemmas
+pub mod StockLemmas

@@ -4,3 +4,4 @@ pub mod Parents
 pub mod Carriers
 pub mod Shape
 pub mod Stock
+pub mod Stocked

@@ -2,10 +2,12 @@
 #![tactic(auto)]
 
 mod free_metas;
+mod meta_stock;
 mod parents;
 mod shape;
 
 pub use free_metas::FreeMetas;
+pub use meta_stock::MetaStock;
 pub use parents::Parents;
 pub use shape::{RunShape, first_active, is_nested_size, raised, run_shape};
 
