@@ -8,3 +8,4 @@ pub mod Publishing
 pub mod Retiring
 pub mod Noting
 pub mod Knowing
+pub mod Lying

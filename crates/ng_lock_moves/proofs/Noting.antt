@@ -1,5 +1,5 @@
 -- The notes of the lock's seat, by its view alone.
-use Rattle.std.proofs.Common.{◌≡◌, ℕ, ◌+◌, ◌/◌, ◌≤◌, Bool, true, false, refl}
+use Rattle.std.proofs.Common.{◌≡◌, ℕ, ◌+◌, ◌/◌, ◌≤◌, Bool, true, false, true≢false, refl, sym}
 use Rattle.ng_view.specs.Conditions.{AreaBuilt}
 use Rattle.ng_view.specs.May.{May}
 use Rattle.ng_view.specs.declared.view.View.{View}
@@ -9,6 +9,7 @@ use Rattle.ng_core_moves.proofs.LockSteps.{area_may}
 use Rattle.ng_lock_moves.specs.Fetches.{HasGroup}
 use Rattle.ng_lock_moves.specs.Notes.{IsNewRefusal, MayNoteRun, NotesArea, NotesRefusal, NotesRing, NotesRun, excuse_of_call, plain_run}
 use Rattle.ng_lock_moves.proofs.Loading.{notes}
+use Rattle.ng_lock_moves.proofs.Lying.{new_empty}
 
 module _ (key : Start) (id : ℕ) (v : View) (leads : v.leads ≡ true) where
   pub notes_ring : (meta : ℕ) (listed : Bool) → HasGroup v meta → May key id v ((meta + 28) / 4) (λ n. n) (λ before n after. NotesRing before meta listed n after)
@@ -16,9 +17,9 @@ module _ (key : Start) (id : ℕ) (v : View) (leads : v.leads ≡ true) where
 
   pub notes_run : (a pages : ℕ) (live : Bool) → MayNoteRun key v a pages live → May key id v (0 / 4) (λ n. n) (λ before n after. NotesRun before a pages live after)
   notes_run a pages true new ws vs kept at wide =
-      let p = run_may key id v leads a pages new.whole new.some new.above new.below new.apart ws vs kept at wide in (p.0, p.1, record { found = _; view = p.2 })
+      let p = run_may key id v leads a pages new.whole new.some new.above new.below new.apart ws vs kept at wide in (p.0, p.1, record { found = _; view = p.2; empty = λ e. new_empty key id v leads ws vs kept at a pages new })
   notes_run a pages false clear ws vs kept at wide =
-      let p = run_left_may key id v leads (plain_run a pages) clear.noted refl clear.empty clear.clear ws vs kept at wide in (p.0, p.1, record { found = _; view = p.2 })
+      let p = run_left_may key id v leads (plain_run a pages) clear.noted refl clear.empty clear.clear ws vs kept at wide in (p.0, p.1, record { found = _; view = p.2; empty = λ e. absurd (true≢false (sym e)) })
 
   pub notes_area : (a : ℕ) → AreaBuilt key v (plain_run a 1) → May key id v (0 / 4) (λ n. n) (λ before n after. NotesArea before a after)
   notes_area a built ws vs kept at wide = let p = area_may key id v leads (plain_run a 1) built ws vs kept at wide in (p.0, p.1, record { found = _; view = p.2 })

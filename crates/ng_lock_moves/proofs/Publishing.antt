@@ -1,5 +1,5 @@
 -- Groups that come to live, by the view of the lock's seat alone.
-use Rattle.std.proofs.Common.{◌≡◌, ◌⊎◌, ℕ, ◌+◌, ◌*◌, ◌/◌, ◌%◌, ◌^◌, ◌<◌, ◌≤◌, eqb, leb, cond, Bool, true, false, List, [], ◌∷◌, set, refl, sym, ap, ◌∙◌, subst, ⊎_elim, inl, inr, arith}
+use Rattle.std.proofs.Common.{◌≡◌, ◌≢◌, ◌⊎◌, ℕ, ◌+◌, ◌*◌, ◌/◌, ◌%◌, ◌^◌, ◌<◌, ◌≤◌, eqb, leb, cond, Bool, true, false, List, [], ◌∷◌, set, refl, sym, ap, ◌∙◌, subst, ⊎_elim, inl, inr, arith}
 use mathlib.Core.Option.{some}
 use lib.ListN.{get_elem?}
 use Rattle.std.specs.Int.{bit_at}
@@ -20,6 +20,7 @@ use Rattle.ng_view.specs.Views.{desk_of}
 use Rattle.ng_view.specs.declared.view.Desk.{Desk}
 use Rattle.ng_view.specs.declared.view.Group.{Group}
 use Rattle.ng_view.specs.declared.view.Held.{Held}
+use Rattle.ng_view.specs.declared.view.Nest.{Nest}
 use Rattle.ng_view.specs.declared.view.Place.{Place}
 use Rattle.ng_view.specs.declared.view.Run.{Run}
 use Rattle.ng_view.specs.declared.view.View.{View}
@@ -33,6 +34,7 @@ use Rattle.ng_core_moves.proofs.LockNotes.{cells_was, is_number, led}
 use Rattle.ng_core_moves.proofs.LockSteps.{publish_may}
 use Rattle.ng_lock_moves.specs.Groups.{BuildsNested, BuildsRun, BuiltNested, MayPublish, Publishes, slot_published}
 use Rattle.ng_lock_moves.proofs.Facts.{listing, noted}
+use Rattle.ng_lock_moves.proofs.Lying.{unborn_uncarried}
 
 -- the group that the words of a meta tell, with a tag
 abbrev told_group : List ℕ → ℕ → ℕ → Group
@@ -170,6 +172,7 @@ module _ (key : Start) (id : ℕ) (v : View) (leads : v.leads ≡ true) (moves :
                 let r = one_run ws vs kept at on.run c.built.run.run on.noted c.built.run.noted (on.begins ∙ ap (λ (y : Group). y.base) e ∙ sym c.built.run.begins) in
                 p.2 ∙ (λ i. run_published v (e i) (r i) mask (f i));
             nested = λ c. absurd (no_both ws vs kept at meta class mask b c);
+            uncarried = subst (λ m. (n : Nest) → Among n v.desk.layout.nests → n.child ≢ m) b.of_meta (unborn_uncarried key id v leads ws vs kept at g.meta b.built.unborn);
           },
         )
 
@@ -186,6 +189,7 @@ module _ (key : Start) (id : ℕ) (v : View) (leads : v.leads ≡ true) (moves :
                 let f = one_freed ws vs kept at g.meta c.group.meta b.freed c.freed b.built.meta.freed c.built.meta.freed (b.of_meta ∙ sym c.of_meta) in
                 let place = one_place ws vs kept at b.slot c.slot g c.group mask b.freed c.freed b.built c.built e in
                 p.2 ∙ (λ i. slot_published v (record { place = place i; block = None; cells = [] }) (e i) mask (f i));
+            uncarried = subst (λ m. (n : Nest) → Among n v.desk.layout.nests → n.child ≢ m) b.of_meta (unborn_uncarried key id v leads ws vs kept at g.meta b.built.meta.unborn);
           },
         )
 

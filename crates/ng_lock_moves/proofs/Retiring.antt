@@ -11,6 +11,7 @@ use Rattle.ng_view.specs.declared.view.Desk.{Desk}
 use Rattle.ng_geometry.proofs.Facts.{nested}
 use Rattle.ng_core_moves.proofs.LockNotes.{led}
 use Rattle.ng_lock_moves.proofs.Facts.{group_is, listing, meta_whole, tag_live}
+use Rattle.ng_lock_moves.proofs.Lying.{one_base, paged, uncarried}
 use Rattle.ng_view.specs.LockSteps.{carrier, nest_of, retired, retired_nested, without_nest}
 use Rattle.ng_view.specs.Lists.{Among, count_of, find, total_by}
 use Rattle.ng_view.specs.May.{May}
@@ -97,5 +98,14 @@ module _ (key : Start) (id : ℕ) (v : View) (leads : v.leads ≡ true) (moves :
   pub retires : (meta : ℕ) → HasAllSlots v meta → May key id v ((meta + 24) / 4) (λ n. 0) (λ before n after. Retires before meta after)
   retires meta all ws vs kept at wide =
       let p = subst (λ m. May key id v ((m + 24) / 4) (λ n. 0) (λ before n after. after ≡ retired_nested before m)) all.live.of_meta
-      (of_group all.live.group all.live.there (λ i le. let r = all.each i le in (r.0, subst (λ m. find m i v.held ≡ Some r.0) (sym all.live.of_meta) r.1, moves r.0 (find_among meta i v.held r.0 r.1).0)) (nest_of all.live.group.meta v.desk.layout.nests) refl) ws vs kept at wide in
-      (p.0, p.1, record { view = p.2; carried = λ g there e none. carried_in ws vs kept at g there none })
+      (of_group all.live.group all.live.there (λ i le. let r = all.each i le in (r.0, subst (λ m. find m i v.held ≡ Some r.0) (sym all.live.of_meta) r.1, moves r.0 (find_among meta i v.held r.0 r.1).0)) (nest_of all.live.group.meta v.desk.layout.nests) refl) ws vs kept at wide in (
+        p.0,
+        p.1,
+        record {
+          view = p.2;
+          carried = λ g there e none. carried_in ws vs kept at g there none;
+          alone = λ g h there e here same. one_base key id v leads ws vs kept at g h there here same;
+          uncarried = λ g there e pages. subst (λ m. nest_of m v.desk.layout.nests ≡ None) e (uncarried key id v leads ws vs kept at g there pages);
+          paged = λ g there e pages. paged key id v leads ws vs kept at g there pages;
+        },
+      )

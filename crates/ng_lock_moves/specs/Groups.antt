@@ -1,5 +1,5 @@
 -- How groups come to live in the lock's seat, and cease to.
-use Rattle.std.specs.Prelude.{◌≡◌, ◌⊎◌, ℕ, ◌+◌, ◌%◌, ◌<◌, ◌≤◌, leb, eqb, cond, ◌∷◌, Some}
+use Rattle.std.specs.Prelude.{◌≡◌, ◌≢◌, ◌⊎◌, ℕ, ◌+◌, ◌%◌, ◌<◌, ◌≤◌, leb, eqb, cond, false, ◌∷◌, Some, None}
 use Rattle.std.specs.Int.{bit_at}
 use Rattle.ng_view.specs.Blocks.{Knows}
 use Rattle.ng_view.specs.Conditions.{Built, HasFlags, IsUnborn, Sees}
@@ -80,10 +80,11 @@ abbrev pub slot_published : View → Held → Group → ℕ → ℕ → View
 slot_published v h g mask f = nested_in v g (select (moving g mask f) 32) (cells_off g.meta (g.meta + 40) v.desk.cells) (cond (eqb mask 0) (g.meta ∷ v.desk.zero_avail) v.desk.zero_avail) h
 
 -- the group is live: the slots in neither mask are in motion, the meta is listed, and a mask of 0 is noted.
--- The slot of a nested one carries it
+-- The slot of a nested one carries it; before that none did
 pub record Publishes (v : View) (meta class mask : ℕ) (w : View) : Type 0 where
   pub run : (b : BuildsRun v meta class mask) → w ≡ run_published v b.group b.built.run.run mask b.freed
   pub nested : (b : BuildsNested v meta class mask) → w ≡ slot_published v b.slot b.group mask b.freed
+  pub uncarried : (n : Nest) → Among n v.desk.layout.nests → n.child ≢ meta
 
 -- every slot of the live group of that meta is in the seat, in motion
 pub record HasAllSlots (v : View) (meta : ℕ) : Type 0 where
@@ -99,8 +100,11 @@ pub record IsCarriedIn (v : View) (g : Group) : Type 0 where
   pub nested : IsNested g nest.place.group
   pub lower : g.tag < nest.place.group.tag
 
--- the group is no more: the slot that carried it is in motion again. A group without pages of its own was
--- carried by a slot
+-- the group is no more: the slot that carried it is in motion again. No other live group began there. A
+-- group without pages of its own was carried by a slot; one with pages had a noted run, and no slot carried it
 pub record Retires (v : View) (meta : ℕ) (w : View) : Type 0 where
   pub view : w ≡ retired_nested v meta
   pub carried : (g : Group) → Among g v.desk.groups → g.meta ≡ meta → g.maplen ≡ 0 → IsCarriedIn v g
+  pub alone : (g h : Group) → Among g v.desk.groups → g.meta ≡ meta → Among h v.desk.groups → h.base ≡ g.base → h ≡ g
+  pub uncarried : (g : Group) → Among g v.desk.groups → g.meta ≡ meta → 0 < g.maplen → nest_of meta v.desk.layout.nests ≡ None
+  pub paged : (g : Group) → Among g v.desk.groups → g.meta ≡ meta → 0 < g.maplen → Among (record { addr = g.base; pages = g.maplen; area = false }) v.desk.layout.runs

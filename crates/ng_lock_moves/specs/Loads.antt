@@ -1,5 +1,5 @@
 -- The loads of the lock's seat.
-use Rattle.std.specs.Prelude.{◌≡◌, ◌≢◌, ℕ, ◌+◌, ◌%◌, ◌<◌, eqb, cond, ◌∷◌, ◌++◌}
+use Rattle.std.specs.Prelude.{◌≡◌, ◌≢◌, ℕ, ◌+◌, ◌<◌, eqb, cond, ◌∷◌, ◌++◌}
 use Rattle.ng_view.specs.Conditions.{Builds}
 use Rattle.ng_view.specs.LockSteps.{avail_read, learnt_free, read_bits, ring_noted}
 use Rattle.ng_view.specs.Lists.{Among}

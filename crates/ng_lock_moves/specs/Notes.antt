@@ -46,10 +46,11 @@ abbrev pub run_changed : View → ℕ → ℕ → Bool → View
 run_changed v a pages true = run_noted v a pages
 run_changed v a pages false = run_left v (plain_run a pages)
 
--- at a load of word 0 the run came or went
+-- at a load of word 0 the run came or went. No live group begins at one that comes
 pub record NotesRun (v : View) (a pages : ℕ) (live : Bool) (w : View) : Type 0 where
   pub found : ℕ
   pub view : w ≡ read (run_changed v a pages live) 0 found
+  pub empty : live ≡ true → IsEmpty v (plain_run a pages)
 
 -- at a load of word 0 the run of one page became an area
 pub record NotesArea (v : View) (a : ℕ) (w : View) : Type 0 where
