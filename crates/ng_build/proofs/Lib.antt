@@ -1,0 +1,4 @@
+pub mod Cells
+pub mod Areas
+pub mod Masks
+pub mod Metas

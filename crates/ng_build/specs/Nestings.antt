@@ -30,7 +30,7 @@ pub record HasCarrier (v : View) (c : Carrier) (g : Group) : Type 0 where
   pub slot : Held
   pub found : find c.meta c.index v.held ≡ Some slot
   pub storage : c.storage ≡ slot.place.group.base + 16
-  pub stride : c.stride ≡ stride slot.place.group
+  pub step : c.stride ≡ stride slot.place.group
   pub few : c.index < 32
   pub near : c.stride * c.index < 2 ^ 20
   pub begins : g.base ≡ slot_start slot.place
