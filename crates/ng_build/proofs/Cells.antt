@@ -33,6 +33,10 @@ only_read v u cs a n e = subst (OnlyCells v) (sym e) (record { view = refl; came
 pub only_built : (v u : View) (a x : ℕ) → u ≡ built v a x → OnlyCells v u
 only_built v u a x e = subst (OnlyCells v) (sym e) (record { view = refl; came = []; readings = sym (append-nil v.readings) })
 
+-- a view by its own cells
+pub by_cells : (v w : View) (cs rs : List (ℕ × ℕ)) → w ≡ knowing v cs rs → w ≡ knowing v w.desk.cells rs
+by_cells v w cs rs e = e ∙ ap (λ c. knowing v c rs) (sym (ap (λ (x : View). x.desk.cells) e))
+
 -- ---- the cells that the seat builds stay so
 pub builds_same : (v w : View) (a : ℕ) → w.desk.layout ≡ v.desk.layout → w.desk.groups ≡ v.desk.groups → Builds v a → Builds w a
 builds_same v w a layout groups b = (

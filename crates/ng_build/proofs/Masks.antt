@@ -2,7 +2,7 @@
 use Rattle.std.proofs.Common.{◌≡◌, ◌≢◌, ◌⊎◌, ℕ, zero, suc, ◌+◌, ◌-◌, ◌*◌, ◌^◌, ◌<◌, ◌≤◌, eqb, ne_eqb, eq-eqb, leb, cond, Bool, true, false, List, [], ◌∷◌, refl, sym, ap, ◌∙◌, subst, ⊎_elim, inl, inr, arith}
 use Rattle.std.specs.Prelude.{◌&&◌}
 use Rattle.std.specs.Int.{bit_at}
-use Rattle.std.proofs.lemmas.Bool.{cases_lt, le-leb}
+use Rattle.std.proofs.lemmas.Bool.{cases_eq, cases_lt, le-leb}
 use Rattle.std.proofs.lemmas.Bool.Decides.{nat_tests}
 use Rattle.std.proofs.lemmas.Nat.{pow_below, pow_pos, pow-add}
 use Rattle.std.proofs.lemmas.Nat.Bits.{bit_at_mask_above, bit_at_mask_below, bit_at_mask_inside}
@@ -49,7 +49,10 @@ module _ (active last : ℕ) (few : active ≤ last) where
 -- ---- the masks of a group
 module _ (g : Group) (active : ℕ) (few : active ≤ g.last) (many : g.last < 32) where
   small : avail_of active < 4294967296
-  small = let p : 2 ^ (active + 1) ≤ 2 ^ 32 = pow_below 2 (active + 1) 32 (omega arith) (omega arith) in let q : 2 ^ 32 ≡ 4294967296 = refl in omega arith
+  small = ⊎_elim
+      (λ (e : active + 1 ≡ 32). let p : 2 ^ (active + 1) ≡ 4294967296 = ap (λ k. 2 ^ k) e in omega arith)
+      (λ (ne : active + 1 ≢ 32). let p : 2 ^ (active + 1) < 4294967296 = pow_below (active + 1) 32 (omega arith) in omega arith)
+      (cases_eq (active + 1) 32)
 
   apart : (i : ℕ) → bit_at (avail_of active) i + bit_at (freed_of active g.last) i ≤ count_of (leb i g.last)
   apart i = ⊎_elim
