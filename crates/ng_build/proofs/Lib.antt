@@ -3,3 +3,6 @@ pub mod Areas
 pub mod Masks
 pub mod Metas
 pub mod Runs
+pub mod Slots
+pub mod Heads
+pub mod Nestings
