@@ -1,0 +1,26 @@
+use Rattle.std.proofs.Common.{sym, subst, inr}
+use Rattle.ng_lock_moves.specs.Groups.{MayPublish, Publishes}
+use Rattle.ng_build.specs.Drafts.{draft_group}
+use Rattle.ng_build.proofs.Heads.{carrier_after}
+use Rattle.ng_build.proofs.Nestings.{nested_idle, slot_builds, slot_publishes}
+use Rattle.ng_build.proofs.nesting.publish_slot.Goals as goal
+
+pub write_headers-requires-clause-carrier : goal.write_headers-requires-clause-carrier
+write_headers-requires-clause-carrier g c = carrier_after _ _ c.args.parent.now (draft_group c.args.draft.now) c.requires.carrier c.write_head.ensures.view
+
+pub write_meta-requires-clause-idle : goal.write_meta-requires-clause-idle
+write_meta-requires-clause-idle g c = nested_idle _ _ _ c.args.parent.now c.args.draft.now c.requires.meta c.requires.carrier c.write_head.ensures.view c.write_headers.ensures.view
+
+pub publish-requires-clause-built : goal.publish-requires-clause-built
+publish-requires-clause-built g c =
+    let p = c.args.parent.now in let d = c.args.draft.now in
+    subst (MayPublish c.write_meta.new.seat d.meta d.class) (sym c.avail.ensures)
+    (inr (slot_builds _ _ _ p d c.requires.meta c.requires.carrier c.write_head.ensures.view c.write_headers.ensures.view
+    _ g.N.Name.start.pages c.requires.place c.requires.counted c.write_meta.ensures c.write_head.ensures.base c.write_head.ensures.base_high c.write_headers.ensures.kept c.write_headers.ensures.lows))
+
+pub returns : goal.returns
+returns g c =
+    let p = c.args.parent.now in let d = c.args.draft.now in
+    slot_publishes _ _ _ p d c.requires.meta c.requires.carrier c.write_head.ensures.view c.write_headers.ensures.view
+    _ g.N.Name.start.pages c.requires.place c.requires.counted c.write_meta.ensures c.write_head.ensures.base c.write_head.ensures.base_high c.write_headers.ensures.kept c.write_headers.ensures.lows _
+    (subst (λ m. Publishes c.write_meta.new.seat d.meta d.class m c.publish.new.seat) c.avail.ensures c.publish.ensures)

@@ -1,0 +1,5 @@
+pub mod Cells
+pub mod Drafts
+pub mod Areas
+pub mod Runs
+pub mod Nestings

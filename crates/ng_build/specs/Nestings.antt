@@ -1,0 +1,84 @@
+-- A group that comes to live in a slot of another.
+use Rattle.std.specs.Prelude.{◌≡◌, ◌⊎◌, ℕ, ◌+◌, ◌*◌, ◌%◌, ◌^◌, ◌<◌, ◌≤◌, eqb, cond, List, ◌∷◌, Some}
+use Rattle.ng_view.specs.Blocks.{Knows}
+use Rattle.ng_view.specs.Layouts.{IsNested}
+use Rattle.ng_view.specs.Lists.{edit, find, without}
+use Rattle.ng_view.specs.Places.{header, reach, slot_start, stride}
+use Rattle.ng_view.specs.Steps.{in_motion}
+use Rattle.ng_view.specs.declared.view.Group.{Group}
+use Rattle.ng_view.specs.declared.view.Held.{Held}
+use Rattle.ng_view.specs.declared.view.View.{View}
+use Rattle.ng_build.specs.declared.nesting.Carrier.{Carrier}
+use Rattle.ng_build.specs.Cells.{KeepsOutside, knowing}
+
+-- the slot with other known cells
+abbrev pub recalling : List (ℕ × ℕ) → Held → Held
+recalling cells h = record h { cells = cells }
+
+-- w is v but for what is known of the cells of one slot
+pub record OnlySlot (v : View) (meta index : ℕ) (w : View) : Type 0 where
+  pub cells : List (ℕ × ℕ)
+  pub view : w ≡ record v { held = edit meta index (recalling cells) v.held }
+
+-- the cell at a is known to have the value x, in that slot of the seat
+abbrev pub SeesIn : View → ℕ → ℕ → ℕ → ℕ → Type 0
+SeesIn v meta index a x = (h : Held) → find meta index v.held ≡ Some h → Knows a x h
+
+-- the seat has the slot of a carrier, and its group's numbers are these. The group g may lie in it, from
+-- its start on
+pub record HasCarrier (v : View) (c : Carrier) (g : Group) : Type 0 where
+  pub slot : Held
+  pub found : find c.meta c.index v.held ≡ Some slot
+  pub storage : c.storage ≡ slot.place.group.base + 16
+  pub step : c.stride ≡ stride slot.place.group
+  pub few : c.index < 32
+  pub near : c.stride * c.index < 2 ^ 20
+  pub begins : g.base ≡ slot_start slot.place
+  pub nested : IsNested g slot.place.group
+  pub fits : reach g ≤ stride slot.place.group
+  pub lower : g.tag < slot.place.group.tag
+
+-- the seat has the slot, which begins there and has the three cells of a group's head
+pub record HasHead (v : View) (meta index base : ℕ) : Type 0 where
+  pub slot : Held
+  pub found : find meta index v.held ≡ Some slot
+  pub begins : base ≡ slot_start slot.place
+  pub room : 16 ≤ stride slot.place.group
+
+-- so many header cells of a group's slots, from the first on, are the carrier's own, whose stride is room;
+-- the one behind the last slot isn't where the slots reach the carrier's end
+pub record HasHeaders (step last room count : ℕ) : Type 0 where
+  pub own : (i : ℕ) → i < count → 16 + step * i < room
+  pub all : (i : ℕ) → i ≤ last + 1 → (i < count) ⊎ (16 + step * i ≡ room)
+
+-- the header cells of a group are known to be 0, but for the one at the carrier's end
+abbrev pub AreHeadersLow : View → ℕ → ℕ → Group → ℕ → Type 0
+AreHeadersLow v meta index g room = (i : ℕ) → i ≤ g.last + 1
+    → SeesIn v meta index (header g i) 0 ⊎ (16 + stride g * i ≡ room)
+
+-- what v knows of the slot's cells below an address, w knows too
+abbrev pub KeepsIn : View → View → ℕ → ℕ → ℕ → Type 0
+KeepsIn v w meta index to = (a x : ℕ) → a < to → SeesIn v meta index a x → SeesIn w meta index a x
+
+-- the view with a live group that the slot h carries, which is out of motion: its own slot 0 is in
+-- motion, it is listed, and where no other slot is in use, its avail mask is noted as 0
+abbrev pub with_nested : View → Group → ℕ → Held → View
+with_nested v g active h = record v {
+  held = in_motion g 0 ∷ without h.place.group.meta h.place.index v.held;
+  desk = record v.desk {
+    layout = record {
+      runs = v.desk.layout.runs;
+      nests = record { place = h.place; child = g.meta } ∷ v.desk.layout.nests;
+    };
+    groups = g ∷ v.desk.groups;
+    listed = g.meta ∷ v.desk.listed;
+    zero_avail = cond (eqb active 0) (g.meta ∷ v.desk.zero_avail) v.desk.zero_avail;
+  };
+}
+
+-- the group is live in the slot of that meta and index: what was known of cells outside its own meta
+-- still is
+pub record PublishesSlot (v : View) (meta index : ℕ) (g : Group) (active : ℕ) (w : View) : Type 0 where
+  pub view : (h : Held) → find meta index v.held ≡ Some h
+      → w ≡ knowing (with_nested v g active h) w.desk.cells v.readings
+  pub kept : KeepsOutside v w g.meta (g.meta + 40)

@@ -1,0 +1,31 @@
+ghost use Rattle.std.specs.Prelude.{◌≡◌, ◌+◌, ◌*◌, ◌%◌, ◌≤◌};
+ghost use Rattle.ng_meta.specs.Place.{IsMetaPlace};
+ghost use Rattle.ng_lock_moves.specs.Notes.{IsClearedRun};
+ghost use Rattle.ng_build.specs.Drafts.{FitsRun, IsBlankMeta, IsCounted, draft_group};
+ghost use Rattle.ng_build.specs.Runs.{IsMetaOutside, PublishesRun};
+
+use crate::draft::{Draft, write_meta};
+use ng_space::{LockSeat, Name, Space};
+
+/// Where a group has the highest index of its slots in use.
+pub(crate) const ACTIVE: u64 = 8;
+
+/// Builds a group on a run whose cells are known to be 0, and makes it live. Its slot 0 is in the
+/// seat, in motion.
+pub fn publish_run<N: Name>(space: &Space<N>, seat: &mut LockSeat<N>, draft: &Draft)
+    requires place { IsMetaPlace draft.now.meta N.start.pages }
+    requires meta { IsBlankMeta seat.old draft.now.meta }
+    requires whole { draft.now.base % 4096 ≡ 0 }
+    requires some { 1 ≤ draft.now.maplen }
+    requires inside { draft.now.base + 4096 * draft.now.maplen ≤ 4096 * N.start.pages }
+    requires run { IsClearedRun seat.old draft.now.base draft.now.maplen }
+    requires apart { IsMetaOutside draft.now.meta draft.now.base (draft.now.base + 4096 * draft.now.maplen) }
+    requires counted { IsCounted draft.now }
+    requires shape { FitsRun (draft_group draft.now) }
+    ensures { PublishesRun seat.old (draft_group draft.now) draft.now.active seat.new }
+{
+    space.store_page(seat, draft.base, draft.meta as u32);
+    space.store_page(seat, draft.base + ACTIVE, draft.active);
+    write_meta(space, seat, draft);
+    space.publish(seat, draft.meta, draft.class, draft.avail());
+}
