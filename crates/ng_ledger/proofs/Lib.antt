@@ -1,5 +1,9 @@
 pub mod AmongLemmas
 pub mod GroupLemmas
+pub mod ElementLemmas
 pub mod RunLemmas
 pub mod ServedLemmas
 pub mod AreaLemmas
+pub mod UsageLemmas
+pub mod MetaLemmas
+pub mod HandLemmas

@@ -1,5 +1,5 @@
 -- The mapper's runs and the noted ones, when a run comes, becomes an area or goes.
-use Rattle.std.proofs.Common.{◌≡◌, ◌≢◌, ◌⊎◌, ℕ, zero, suc, ◌+◌, ◌*◌, ◌≤◌, eqb, true, false, true≢false, List, [], ◌∷◌, get_or, All, AllPairs, Contains, sum_by, refl, sym, ap, subst, ◌∙◌, ⊎_elim, inl, inr, arith}
+use Rattle.std.proofs.Common.{◌≡◌, ◌≢◌, ◌⊎◌, ℕ, suc, ◌+◌, ◌*◌, ◌≤◌, eqb, true, false, true≢false, List, [], ◌∷◌, get_or, All, AllPairs, Contains, sum_by, refl, sym, ap, subst, ◌∙◌, ⊎_elim, inl, inr, arith}
 use Rattle.std.proofs.lemmas.Bool.{cases_eq}
 use Rattle.std.proofs.lemmas.List.Elements.{All-contains, Contains-append_right}
 use Rattle.std.proofs.lemmas.List.Sorted.{Contains-permutation, IsPermutation-sym, sum_by-IsPermutation}
@@ -17,12 +17,8 @@ use Rattle.ng_view.specs.declared.view.Layout.{Layout}
 use Rattle.ng_view.specs.declared.view.Run.{Run}
 use Rattle.ng_view.specs.declared.view.Start.{Start}
 use Rattle.ng_view.specs.declared.view.View.{View}
+use Rattle.ng_ledger.proofs.ElementLemmas.{first_or_behind}
 use Rattle.ng_ledger.specs.Runs.{AreMapped, IsNoted}
-
--- what a list has is its first element, or stands behind it
-first_or_behind : {X : Type 0} (x : X) (xs : List X) (y : X) → Contains (x ∷ xs) y → (y ≡ x) ⊎ Contains xs y
-first_or_behind x xs y (zero, within, is) = inl (sym is)
-first_or_behind x xs y (suc k, within, is) = inr (k, omega arith, is)
 
 -- the run as an area
 abbrev pub as_area : Run → Run
