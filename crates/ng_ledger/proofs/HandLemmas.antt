@@ -1,18 +1,21 @@
 -- The metas that a call has in hand, when the stock, the groups and the areas change.
-use Rattle.std.proofs.Common.{◌≡◌, ◌≢◌, ℕ, List, [], ◌∷◌, ◌++◌, drop, AllPairs, Contains, Some, sym, subst, ⊎_elim, arith}
+use Rattle.std.proofs.Common.{◌≡◌, ◌≢◌, ◌⊎◌, ℕ, ◌+◌, ◌*◌, ◌≤◌, List, [], ◌∷◌, ◌++◌, drop, AllPairs, Contains, Some, sym, subst, ⊎_elim, arith}
 use Rattle.std.specs.List.{slice_get}
 use Rattle.std.proofs.lemmas.List.Elements.{Contains-append_cases, Contains-append_left, Contains-append_right, Contains-push}
 use Rattle.ng_shelf.specs.Stock.{Stock, free_of, metas_of}
+use Rattle.ng_view.specs.Conditions.{IsBlanked}
 use Rattle.ng_view.specs.Layouts.{InArea}
 use Rattle.ng_view.specs.LockSteps.{groups_but, runs_but}
 use Rattle.ng_view.specs.declared.view.Group.{Group}
 use Rattle.ng_view.specs.declared.view.Layout.{Layout}
 use Rattle.ng_view.specs.declared.view.Run.{Run}
+use Rattle.ng_view.specs.declared.view.View.{View}
 use Rattle.ng_ledger.specs.Metas.{AreFree, IsInHand}
+use Rattle.ng_ledger.specs.Standing.{InHand, KeepsHand, Ledger}
 use Rattle.ng_ledger.proofs.AreaLemmas.{IsOfArea, area_was}
-use Rattle.ng_ledger.proofs.ElementLemmas.{contains_drop, contains_get, contains_rest, first_not_behind}
+use Rattle.ng_ledger.proofs.ElementLemmas.{cases_contains, contains_drop, contains_get, contains_rest, first_not_behind}
 use Rattle.ng_ledger.proofs.GroupLemmas.{unborn_before, unborn_dropped, unborn_fewer, unborn_more, unborn_stays}
-use Rattle.ng_ledger.proofs.MetaLemmas.{area_contains, put_cases, stock_area}
+use Rattle.ng_ledger.proofs.MetaLemmas.{area_contains, of_area, put_cases, stock_area}
 use Rattle.ng_ledger.proofs.RunLemmas.{as_area}
 
 module _ (d : Layout) (gs : List Group) (free : List ℕ) where
@@ -107,3 +110,40 @@ module _ (d : Layout) (gs : List Group) (s : Stock) where
       where
         empty : ¬ Contains [] n
         empty (k, within, is) = absurd (omega arith)
+
+    -- and what was in hand still is, where it is apart from the run
+    pub hand_area_more : (n : ℕ) → (InArea d n → InArea d' n) → r.pages ≡ 1 → (n + 40 ≤ r.addr) ⊎ (r.addr + 4096 * r.pages ≤ n) → IsInHand d gs (free_of s) n → IsInHand d' gs (free_of (record s { unused = metas_of r.addr; area = r.addr })) n
+    hand_area_more n stays page apart hand = record {
+      area = stays hand.area;
+      unborn = hand.unborn;
+      taken = λ in'. out (of_area r.addr n (subst (λ xs. Contains xs n) (stock_area s r.addr none) in'));
+    }
+      where
+        out : IsOfArea r.addr n → ⊥
+        out of = ⊎_elim
+            (λ (before : n + 40 ≤ r.addr). omega (arith, of.place))
+            (λ (after : r.addr + 4096 * r.pages ≤ n). omega (arith, of.place, of.below))
+            apart
+
+-- where no meta is in hand, each meta without a live group is known to be 0
+pub blanked : (pages : ℕ) (v : View) (free : List ℕ) → AreFree pages v.desk.layout v.desk.groups v.desk.cells free → ((m : ℕ) → ¬ IsInHand v.desk.layout v.desk.groups free m) → IsBlanked v
+blanked pages v free are none m b whole area unborn low aligned = ⊎_elim
+    (λ (in' : Contains free m). (are m in').blank b low aligned)
+    (λ (out : ¬ Contains free m). absurd (none m (record { area = area; unborn = unborn; taken = out })))
+    (cases_contains free m)
+
+-- ---- the metas in hand over calls
+
+pub keeps_hand-same : (l : Ledger) → KeepsHand l l
+keeps_hand-same l = record { none_more = λ m hand. hand; none_less = λ m hand. hand; blank = λ m hand blank. blank }
+
+pub keeps_hand-trans : (before mid after : Ledger) → KeepsHand before mid → KeepsHand mid after → KeepsHand before after
+keeps_hand-trans before mid after first second = record {
+  none_more = λ m hand. first.none_more m (second.none_more m hand);
+  none_less = λ m hand. second.none_less m (first.none_less m hand);
+  blank = λ m hand blank. second.blank m (first.none_less m hand) (first.blank m hand blank);
+}
+
+-- none is in hand after a call where none was before
+pub keeps_hand-none : (before after : Ledger) → KeepsHand before after → ((m : ℕ) → ¬ InHand before m) → (m : ℕ) → ¬ InHand after m
+keeps_hand-none before after keeps none m hand = none m (keeps.none_more m hand)

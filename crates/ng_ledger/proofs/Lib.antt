@@ -7,3 +7,4 @@ pub mod AreaLemmas
 pub mod UsageLemmas
 pub mod MetaLemmas
 pub mod HandLemmas
+pub mod CarrierLemmas

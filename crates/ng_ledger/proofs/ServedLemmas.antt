@@ -3,10 +3,12 @@ use Rattle.std.proofs.Common.{◌≡◌, ◌≢◌, ℕ, ◌<◌, List, ◌∷�
 use Rattle.std.proofs.lemmas.Bool.{cases_eq}
 use Rattle.ng_geometry.proofs.Lists.{run_was}
 use Rattle.ng_lock_moves.specs.Notes.{plain_run}
+use Rattle.ng_view.specs.Conditions.{IsSettled}
 use Rattle.ng_view.specs.LockSteps.{groups_but, runs_but}
 use Rattle.ng_view.specs.Lists.{Among}
 use Rattle.ng_view.specs.declared.view.Group.{Group}
 use Rattle.ng_view.specs.declared.view.Run.{Run}
+use Rattle.ng_view.specs.declared.view.View.{View}
 use Rattle.ng_ledger.specs.Groups.{AreGroups}
 use Rattle.ng_ledger.specs.Runs.{AreServed, AreServedBut, HasRun}
 use Rattle.ng_ledger.proofs.GroupLemmas.{group_left, same_group}
@@ -78,3 +80,7 @@ module _ (pages : ℕ) (noted : List Run) (gs : List Group) (g : Group) (are : A
       (λ has. inr (left r.addr has (λ h e begins paged. apart (sym begins ∙ ap (λ (x : Group). x.base) e))))
       (served r t)))
       (cases_eq r.addr g.base)
+
+-- each run is an area or that of a live group: the space can be closed
+pub settled : (v : View) → AreServed v.desk.layout.runs v.desk.groups → IsSettled v
+settled v are r there = ⊎_elim (λ area. inl area) (λ has. inr (has.group, has.there, has.begins)) (are r there)
