@@ -1,0 +1,10 @@
+pub mod AmongLemmas
+pub mod GroupLemmas
+pub mod ElementLemmas
+pub mod RunLemmas
+pub mod ServedLemmas
+pub mod AreaLemmas
+pub mod UsageLemmas
+pub mod MetaLemmas
+pub mod HandLemmas
+pub mod CarrierLemmas

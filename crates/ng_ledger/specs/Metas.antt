@@ -1,11 +1,15 @@
 -- What stands of the free metas.
-use Rattle.std.specs.Prelude.{◌≡◌, ℕ, ◌+◌, ◌%◌, ◌<◌, List, Contains}
+use Rattle.std.specs.Prelude.{◌≡◌, ℕ, ◌+◌, ◌%◌, ◌<◌, ◌≤◌, ◌⊎◌, List, Contains}
 use Rattle.ng_meta.specs.Place.{IsMetaPlace}
 use Rattle.ng_view.specs.Layouts.{InArea}
 use Rattle.ng_view.specs.Lists.{Among}
 use Rattle.ng_view.specs.declared.view.Group.{Group}
 use Rattle.ng_view.specs.declared.view.Layout.{Layout}
 use Rattle.ng_ledger.specs.Groups.{IsUnborn}
+
+-- what was known of the cells outside a range still is
+abbrev pub Keeps : List (ℕ × ℕ) → List (ℕ × ℕ) → ℕ → ℕ → Type 0
+Keeps cells cells' from to = (b x : ℕ) → (b < from) ⊎ (to ≤ b) → Among {A = ℕ × ℕ} (b, x) cells → Among {A = ℕ × ℕ} (b, x) cells'
 
 -- the ten cells of the meta are known to be 0
 abbrev pub IsBlankMeta : List (ℕ × ℕ) → ℕ → Type 0

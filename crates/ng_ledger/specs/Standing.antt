@@ -1,5 +1,5 @@
 -- What stands whenever a call of the core runs, and between two calls.
-use Rattle.std.specs.Prelude.{◌≡◌, ◌⊎◌, ℕ, true, [], List}
+use Rattle.std.specs.Prelude.{◌≡◌, ◌⊎◌, ℕ, List}
 use Rattle.ng_mapper.specs.Mapping.{Span}
 use Rattle.ng_mapper.specs.Runs as mapper
 use Rattle.ng_lists.specs.Rings.{RingTable}
@@ -8,7 +8,7 @@ use Rattle.ng_shelf.specs.Stock.{Stock, free_of}
 use Rattle.ng_view.specs.Layouts.{IsAreaAt}
 use Rattle.ng_view.specs.declared.view.Start.{Start}
 use Rattle.ng_view.specs.declared.view.View.{View}
-use Rattle.ng_ledger.specs.Carriers.{AreCarried}
+use Rattle.ng_ledger.specs.Carriers.{AreCarried, AreNested}
 use Rattle.ng_ledger.specs.Groups.{AreGroups}
 use Rattle.ng_ledger.specs.Metas.{AreFree, IsBlankMeta, IsInHand}
 use Rattle.ng_ledger.specs.Rings.{AreRinged}
@@ -42,6 +42,7 @@ pub record Stands (start : Start) (live : List mapper.Run) (l : Ledger) : Type 0
   pub mapped : AreMapped l.seat.desk.layout.runs live
   pub served : AreServed l.seat.desk.layout.runs l.seat.desk.groups
   pub used : AreUsed l.seat.desk.groups l.usage
+  pub nested : AreNested l.seat.desk.groups l.seat.desk.layout.nests
   pub carried : AreCarried l.seat.desk.layout.nests l.parents
 
 -- a call has the meta in hand
