@@ -8,3 +8,4 @@ pub mod UsageLemmas
 pub mod MetaLemmas
 pub mod HandLemmas
 pub mod CarrierLemmas
+pub mod FoundedLemmas

@@ -17,12 +17,12 @@ use Rattle.ng_view.specs.declared.view.Group.{Group}
 use Rattle.ng_view.specs.declared.view.Layout.{Layout}
 use Rattle.ng_view.specs.declared.view.Run.{Run}
 use Rattle.ng_ledger.specs.Groups.{IsUnborn}
-use Rattle.ng_ledger.specs.Metas.{AreFree, IsBlankMeta, IsFreeMeta, Keeps}
+use Rattle.ng_ledger.specs.Metas.{AreFree, AreOfAreas, IsBlankMeta, IsFreeMeta, Keeps}
 use Rattle.ng_ledger.specs.Runs.{AreMapped}
 use Rattle.ng_ledger.proofs.AmongLemmas.{among_back}
 use Rattle.ng_ledger.proofs.AreaLemmas.{IsOfArea}
 use Rattle.ng_ledger.proofs.ElementLemmas.{contains_behind, contains_drop, contains_first, contains_get, first_not_behind, first_or_behind}
-use Rattle.ng_ledger.proofs.GroupLemmas.{unborn_more, unborn_stays}
+use Rattle.ng_ledger.proofs.GroupLemmas.{groups_were, unborn_more, unborn_stays}
 use Rattle.ng_ledger.proofs.RunLemmas.{area_apart}
 
 -- ---- cells
@@ -168,3 +168,43 @@ pub free_area : (pages : ℕ) (d : Layout) (gs : List Group) (cells : List (ℕ 
 free_area pages d gs cells s a none whole some inside area unborn blank m in' =
     let of : IsOfArea a m = of_area a m (subst (λ xs. Contains xs m) (stock_area s a none) in') in
     record { place = area_places pages a m whole some inside of; area = area m of; unborn = unborn m of; blank = blank m of }
+
+-- where the cells of an area but its head and tail are known to be 0, its metas are blank
+pub area_blank : (cells : List (ℕ × ℕ)) (a m : ℕ) → a % 4096 ≡ 0 → ((b : ℕ) → b % 4 ≡ 0 → a + 24 ≤ b → b < a + 4064 → Among {A = ℕ × ℕ} (b, 0) cells) → IsOfArea a m → IsBlankMeta cells m
+area_blank cells a m whole known of b low aligned =
+    let place : m ≡ meta_place a of.number = of.place in
+    let below = of.below in
+    known (m + b) (omega arith) (omega arith) (omega arith)
+
+-- and stay so when what is known of the head and the tail goes
+pub area_blank_made : (cells : List (ℕ × ℕ)) (a m : ℕ) → IsOfArea a m → IsBlankMeta cells m → IsBlankMeta (cells_off a (a + 24) (cells_off (a + 4064) (a + 4096) cells)) m
+area_blank_made cells a m of blank =
+    let place : m ≡ meta_place a of.number = of.place in
+    let below = of.below in
+    let tail : List (ℕ × ℕ) = cells_off (a + 4064) (a + 4096) cells in
+    blank_kept tail (cells_off a (a + 24) tail) a (a + 24) m (keeps_off a (a + 24) tail) (inr (omega arith)) (blank_kept cells tail (a + 4064) (a + 4096) m (keeps_off (a + 4064) (a + 4096) cells) (inl (omega arith)) blank)
+
+-- ---- the metas of the live groups
+
+-- a group comes, whose meta is of an area
+pub of_areas_born : (d : Layout) (gs : List Group) (g : Group) → AreOfAreas d gs → InArea d g.meta → AreOfAreas d (g ∷ gs)
+of_areas_born d gs g are area h (inl e) = subst (λ (x : Group). InArea d x.meta) (sym e) area
+of_areas_born d gs g are area h (inr t) = are h t
+
+-- a group goes
+pub of_areas_retired : (d : Layout) (gs : List Group) (m : ℕ) → AreOfAreas d gs → AreOfAreas d (groups_but m gs)
+of_areas_retired d gs m are h there = are h (groups_were gs m h there).0
+
+-- the layout changes, and no area goes
+pub of_areas_moved : (d d' : Layout) (gs : List Group) → ((m : ℕ) → InArea d m → InArea d' m) → AreOfAreas d gs → AreOfAreas d' gs
+of_areas_moved d d' gs stays are h there = stays h.meta (are h there)
+
+-- no live group has a meta in a run that is no area
+pub unborn_in_run : (span : Span) (live : List mapper.Run) (d : Layout) (gs : List Group) (r : Run) (m : ℕ) → AreLaid span live → AreMapped d.runs live → AreOfAreas d gs → Among r d.runs → r.area ≡ false → r.pages ≡ 1 → IsOfArea r.addr m → IsUnborn gs m
+unborn_in_run span live d gs r m laid mapped are there plain page of g in' same =
+    let place : m ≡ meta_place r.addr of.number = of.place in
+    let below = of.below in
+    ⊎_elim
+    (λ (before : g.meta + 40 ≤ r.addr). omega arith)
+    (λ (after : r.addr + 4096 * r.pages ≤ g.meta). omega arith)
+    (area_apart span d.runs live laid mapped d g.meta refl (are g in') r there plain)

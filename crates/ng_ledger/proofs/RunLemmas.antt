@@ -45,7 +45,7 @@ module _ (span : Span) (noted : List Run) (live : List mapper.Run) (laid : AreLa
       omega (arith, lies.below, is.inside)
 
   -- none begins at a new run's address
-  other_start : (a p : ℕ) → IsFree span live (a, p) → (s : Run) → Among s noted → s.addr ≢ a
+  pub other_start : (a p : ℕ) → IsFree span live (a, p) → (s : Run) → Among s noted → s.addr ≢ a
   other_start a p free s there same =
       let lies = lies-contained span live laid (s.addr, s.pages) (are.mapped s there) in
       ⊎_elim

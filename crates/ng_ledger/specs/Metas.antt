@@ -31,3 +31,7 @@ pub record IsInHand (d : Layout) (gs : List Group) (free : List ℕ) (m : ℕ) :
   pub area : InArea d m
   pub unborn : IsUnborn gs m
   pub taken : ¬ Contains free m
+
+-- the meta of each live group is one of an area
+abbrev pub AreOfAreas : Layout → List Group → Type 0
+AreOfAreas d gs = (g : Group) → Among g gs → InArea d g.meta

@@ -1,5 +1,6 @@
 -- What ties the mapper's runs to the noted ones.
 use Rattle.std.specs.Prelude.{◌≡◌, ◌⊎◌, ℕ, ◌<◌, true, List, Contains}
+use Rattle.ng_lock_moves.specs.Notes.{plain_run}
 use Rattle.ng_mapper.specs.Runs as mapper
 use Rattle.ng_view.specs.Lists.{Among}
 use Rattle.ng_view.specs.declared.view.Group.{Group}
@@ -32,3 +33,8 @@ AreServedBut a noted gs = (r : Run) → Among r noted → (r.addr ≡ a) ⊎ (r.
 -- each noted run is
 abbrev pub AreServed : List Run → List Group → Type 0
 AreServed noted gs = (r : Run) → Among r noted → (r.area ≡ true) ⊎ HasRun gs r.addr
+
+-- each live group with pages of its own begins at a noted run of so many pages, which is no area, and is alone there
+pub record AreFounded (noted : List Run) (gs : List Group) : Type 0 where
+  pub runs : (g : Group) → Among g gs → 0 < g.maplen → Among (plain_run g.base g.maplen) noted
+  pub alone : (g h : Group) → Among g gs → Among h gs → 0 < g.maplen → 0 < h.maplen → g.base ≡ h.base → g ≡ h

@@ -10,9 +10,9 @@ use Rattle.ng_view.specs.declared.view.Start.{Start}
 use Rattle.ng_view.specs.declared.view.View.{View}
 use Rattle.ng_ledger.specs.Carriers.{AreCarried, AreNested}
 use Rattle.ng_ledger.specs.Groups.{AreGroups}
-use Rattle.ng_ledger.specs.Metas.{AreFree, IsBlankMeta, IsInHand}
+use Rattle.ng_ledger.specs.Metas.{AreFree, AreOfAreas, IsBlankMeta, IsInHand}
 use Rattle.ng_ledger.specs.Rings.{AreRinged}
-use Rattle.ng_ledger.specs.Runs.{AreMapped, AreServed}
+use Rattle.ng_ledger.specs.Runs.{AreFounded, AreMapped, AreServed}
 use Rattle.ng_ledger.specs.Usage.{AreUsed}
 
 -- what the owner of the lock keeps: the view of its seat, the rings, the free metas, the table of carrying slots, and
@@ -38,9 +38,11 @@ pub record Stands (start : Start) (live : List mapper.Run) (l : Ledger) : Type 0
   pub groups : AreGroups start.pages l.seat.desk.groups
   pub ringed : AreRinged l.seat.desk.groups l.seat.desk.listed l.seat.desk.zero_avail l.rings
   pub free : AreFree start.pages l.seat.desk.layout l.seat.desk.groups l.seat.desk.cells (free_of l.stock)
+  pub of_areas : AreOfAreas l.seat.desk.layout l.seat.desk.groups
   pub area : (l.stock.area ≡ 0) ⊎ IsAreaAt l.seat.desk.layout.runs l.stock.area
   pub mapped : AreMapped l.seat.desk.layout.runs live
   pub served : AreServed l.seat.desk.layout.runs l.seat.desk.groups
+  pub founded : AreFounded l.seat.desk.layout.runs l.seat.desk.groups
   pub used : AreUsed l.seat.desk.groups l.usage
   pub nested : AreNested l.seat.desk.groups l.seat.desk.layout.nests
   pub carried : AreCarried l.seat.desk.layout.nests l.parents
