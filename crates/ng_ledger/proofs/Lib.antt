@@ -1,0 +1,5 @@
+pub mod AmongLemmas
+pub mod GroupLemmas
+pub mod TableLemmas
+pub mod RingLemmas
+pub mod TurnLemmas
