@@ -1,7 +1,7 @@
 -- The live groups as one comes or goes.
-use Rattle.std.proofs.Common.{◌≡◌, ◌≢◌, ◌⊎◌, ℕ, ◌+◌, ◌<◌, ◌≤◌, eqb, cond, Bool, true, false, List, [], ◌∷◌, refl, ap, sym, subst, ◌∙◌, ⊎_elim, inl, inr, arith}
+use Rattle.std.proofs.Common.{◌≡◌, ◌≢◌, ◌⊎◌, ℕ, ◌+◌, ◌≤◌, eqb, cond, Bool, true, false, List, [], ◌∷◌, refl, ap, sym, subst, ◌∙◌, ⊎_elim, inl, inr, arith}
 use Rattle.std.proofs.lemmas.Bool.{cases_eq, eqb-true, eqb-false, eq-eqb, ne_eqb}
-use Rattle.ng_view.specs.Lists.{Among, count_of, total_by}
+use Rattle.ng_view.specs.Lists.{Among, count_of}
 use Rattle.ng_view.specs.LockSteps.{groups_but}
 use Rattle.ng_view.specs.declared.view.Group.{Group}
 use Rattle.ng_geometry.proofs.Lists.{total_by-among}

@@ -2,4 +2,3 @@ pub mod AmongLemmas
 pub mod GroupLemmas
 pub mod TableLemmas
 pub mod RingLemmas
-pub mod TurnLemmas
