@@ -9,12 +9,13 @@ use Rattle.ng_lists.specs.Rings.{IsListed, RingTable, ring_of, rotated, without}
 use Rattle.ng_lists.proofs.ChainLemmas.{Contains-head}
 use Rattle.ng_lists.proofs.CircleLemmas.{only}
 use Rattle.ng_lists.proofs.DistinctLemmas.{IsDistinct, distinct_head}
-use Rattle.ng_lists.proofs.MemberLemmas.{Contains-enqueued, Contains-first, Contains-rotated, Contains-without, rotated_has, without_other}
+use Rattle.ng_lists.proofs.MemberLemmas.{Contains-enqueued, Contains-rotated, Contains-without, rotated_has, without_other}
 use Rattle.ng_ledger.specs.Groups.{AreGroups, IsOfClass, IsUnborn}
 use Rattle.ng_ledger.specs.Rings.{AreRinged, ChangesRing, IsBare, IsIn, IsTable, entered, entered_first, left, turned}
 use Rattle.ng_ledger.proofs.AmongLemmas.{among_others, others_were}
 use Rattle.ng_ledger.proofs.GroupLemmas.{class_first, class_more, class_stays, one_class, unborn_class}
-use Rattle.ng_ledger.proofs.TableLemmas.{changed_each, changed_here, changed_listed, entered_changes, first_changes, first_is, in_known, in_listed, in_within, left_changes, left_first, left_was, listed_class, one_ring, ring_once, tail_in, tail_with, tail_without, turned_changes, turned_was}
+use Rattle.ng_ledger.proofs.TableLemmas.{changed_each, changed_here, changed_listed, first_is, in_known, in_listed, in_within, listed_class, one_ring, ring_once, tail_in, tail_with, tail_without}
+use Rattle.ng_ledger.proofs.StepLemmas.{entered_changes, first_changes, left_changes, left_was, turned_changes}
 
 -- ---- what the law says of one meta
 
@@ -225,41 +226,3 @@ turn gs ls z table class m in' bare ringed = ringed_changed gs ls ls z table (tu
 
     was : (n : ℕ) → Contains (rotated m (ring_of table class)) n → IsIn table class n
     was n = Contains-rotated (ring_of table class) m n in'
-
--- ---- rings whose metas all have avail noted as 0
-
--- they stay so as more are noted
-pub bare_grows : (z more : List ℕ) (table : RingTable) (class : ℕ)
-    → ((m : ℕ) → Among m z → Among m more) → IsBare z table class → IsBare more table class
-bare_grows z more table class keeps bare m in' = keeps m (bare m in')
-
--- as the avail of a meta of another ring is no longer noted
-pub bare_stocked : (z less : List ℕ) (table : RingTable) (class m other : ℕ)
-    → IsTable table → IsIn table class m → other ≢ class → ((n : ℕ) → n ≢ m → Among n z → Among n less) → IsBare z table other → IsBare less table other
-bare_stocked z less table class m other is in' apart keeps bare n here =
-    keeps n (λ same. apart (one_ring table other class m is (subst (IsIn table other) same here) in')) (bare n here)
-
--- as a meta leaves
-pub bare_leaves : (z : List ℕ) (table : RingTable) (class m other : ℕ)
-    → IsTable table → IsIn table class m → IsBare z table other → IsBare z (left table class m) other
-bare_leaves z table class m other is in' bare n here = bare n (left_was table class m other n is in' here).0
-
--- and as one is turned
-pub bare_turns : (z : List ℕ) (table : RingTable) (class m other : ℕ)
-    → IsIn table class m → IsBare z table other → IsBare z (turned table class m) other
-bare_turns z table class m other in' bare n here = bare n (turned_was table class m other n in' here)
-
--- a ring whose first has avail noted as 0 is so
-pub bare_first : (gs : List Group) (ls z : List ℕ) (table : RingTable) (class m : ℕ)
-    → class < 48 → slice_get (ring_of table class) 0 ≡ Some m → Among m z → AreRinged gs ls z table → IsBare z table class
-bare_first gs ls z table class m known first zero ringed n here = ⊎_elim
-    (λ (new : Contains (m ∷ []) n). subst (λ k. Among k z) (sym (only m n new)) zero)
-    (λ (old : Contains (drop 1 (ring_of table class)) n). ringed.tails class n known old)
-    (Contains-append_cases (m ∷ []) (drop 1 (ring_of table class)) n (subst (λ xs. Contains xs n) (first_is (ring_of table class) m first) here))
-
--- what is left of a ring whose first leaves is so
-pub bare_left : (gs : List Group) (ls z : List ℕ) (table : RingTable) (class m : ℕ)
-    → IsTable table → slice_get (ring_of table class) 0 ≡ Some m → AreRinged gs ls z table → IsBare z (left table class m) class
-bare_left gs ls z table class m is first ringed n here =
-    let in' : IsIn table class m = Contains-first (ring_of table class) m (sym first) in
-    ringed.tails class n (in_known table class m is in') (subst (λ xs. Contains xs n) (left_first table class m first) here)
