@@ -1,5 +1,9 @@
 pub mod AmongLemmas
 pub mod GroupLemmas
+pub mod TableLemmas
+pub mod StepLemmas
+pub mod RingLemmas
+pub mod BareLemmas
 pub mod ElementLemmas
 pub mod RunLemmas
 pub mod ServedLemmas
@@ -8,4 +12,3 @@ pub mod UsageLemmas
 pub mod MetaLemmas
 pub mod HandLemmas
 pub mod CarrierLemmas
-pub mod FoundedLemmas
