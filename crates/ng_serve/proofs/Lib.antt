@@ -1,0 +1,4 @@
+pub mod Readings
+pub mod Fields
+pub mod Changes
+pub mod Freed
