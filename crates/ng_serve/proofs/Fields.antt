@@ -10,9 +10,9 @@ use Rattle.ng_view.specs.declared.view.Group.{Group}
 use Rattle.ng_view.specs.declared.view.View.{View}
 use Rattle.ng_lock_moves.specs.Fetches.{HasGroup}
 use Rattle.ng_lock_moves.specs.Loads.{IsField, Loads, TellsGroups}
-use Rattle.ng_lock_moves.specs.Stores.{IsActiveIndex}
+use Rattle.ng_lock_moves.specs.Stores.{IsActiveIndex, Stores}
 use Rattle.ng_mask.specs.Fetches.{OfGroup}
-use Rattle.ng_serve.specs.Groups.{AreInSpace, Describes, IsInSpace, ReadsFields}
+use Rattle.ng_serve.specs.Groups.{AreInSpace, Describes, IsInSpace, IsRaisedTo, ReadsFields, ReadsIndex}
 use Rattle.ng_serve.specs.Reads.{Reads}
 use Rattle.ng_serve.specs.declared.group.LiveGroup.{LiveGroup}
 use Rattle.ng_serve.proofs.Readings.{reads_groups, reads_one, reads_then}
@@ -80,8 +80,11 @@ index_cell v base pages is inside =
     let at : g.base ≡ base = omega arith in
     record { whole = ap (λ b. b % 16) (sym at) ∙ s.whole; inside = subst (λ b. b + 16 ≤ 4096 * pages) at s.inside }
 
-pub index_reads : (v w : View) (base n : ℕ) → IsActiveIndex v (base + 8) → Loads v (base + 8) n w → Reads v w
-index_reads v w base n is loads = reads_one v w (base + 8) n (loads.index is)
+pub reads_index : (v w : View) (base n index : ℕ) → IsActiveIndex v (base + 8) → Loads v (base + 8) n w → index ≡ n % 32 → ReadsIndex v base index w
+reads_index v w base n index is loads low = record { word = n; index_is = low; view = loads.index is }
+
+pub index_reads : (v w : View) (base index : ℕ) → ReadsIndex v base index w → Reads v w
+index_reads v w base index r = reads_one v w (base + 8) r.word r.view
 
 -- ---- after readings
 pub lives_then : (v w : View) (meta : ℕ) → Reads v w → HasGroup v meta → HasGroup w meta
@@ -99,3 +102,10 @@ group_index v w meta found has group reads = record {
   there = subst (Among has.group) (sym (reads_groups v w reads)) has.there;
   place = ap (λ b. b + 8) (sym (group has.group has.there has.of_meta).base);
 }
+
+-- ---- an index that is raised
+pub index_stays : (v w : View) (a b : ℕ) → IsActiveIndex v a → a ≡ b → Reads v w → IsActiveIndex w b
+index_stays v w a b is same reads = record { group = is.group; there = subst (Among is.group) (sym (reads_groups v w reads)) is.there; place = sym same ∙ is.place }
+
+pub reads_stored : (v u w : View) (a x : ℕ) → IsActiveIndex u a → Reads v u → Stores u a x w → Reads v w
+reads_stored v u w a x is reads stores = subst (Reads v) (sym (stores.index is)) reads

@@ -1,5 +1,5 @@
 -- The numbers of live groups.
-use Rattle.std.specs.Prelude.{◌≡◌, ℕ, ◌+◌, ◌*◌, ◌%◌, ◌≤◌, List, Contains}
+use Rattle.std.specs.Prelude.{◌≡◌, ◌⊎◌, ℕ, ◌+◌, ◌*◌, ◌%◌, ◌≤◌, List, Contains}
 use Rattle.ng_view.specs.Lists.{Among}
 use Rattle.ng_view.specs.Steps.{read}
 use Rattle.ng_view.specs.declared.view.Group.{Group}
@@ -27,6 +27,16 @@ pub record ReadsFields (v : View) (meta : ℕ) (w : View) : Type 0 where
   pub mem : ℕ
   pub flags : ℕ
   pub view : w ≡ read (read v (meta + 16) mem) (meta + 32) flags
+
+-- the cell of the highest index in use was read, of which the lowest five bits count
+pub record ReadsIndex (v : View) (base index : ℕ) (w : View) : Type 0 where
+  pub word : ℕ
+  pub index_is : index ≡ word % 32
+  pub view : w ≡ read v (base + 8) word
+
+-- the index is a slot's up to the last one, or as it was read
+abbrev pub IsRaisedTo : View → ℕ → ℕ → ℕ → View → Type 0
+IsRaisedTo v base last index w = (index ≤ last) ⊎ ReadsIndex v base index w
 
 -- one of the groups is of that meta and class
 pub record LivesIn (groups : List Group) (class meta : ℕ) : Type 0 where

@@ -4,7 +4,7 @@ ghost use Rattle.ng_meta.specs.Place.{IsMetaPlace};
 ghost use Rattle.ng_lock_moves.specs.Fetches.{HasGroup};
 ghost use Rattle.ng_lock_moves.specs.Stores.{IsActiveIndex};
 ghost use Rattle.ng_mask.specs.Fetches.{OfGroup};
-ghost use Rattle.ng_serve.specs.Groups.{AreInSpace, Describes, ReadsFields};
+ghost use Rattle.ng_serve.specs.Groups.{AreInSpace, Describes, IsRaisedTo, ReadsFields, ReadsIndex};
 ghost use Rattle.ng_serve.specs.Reads.{Reads};
 
 use ng_meta::{fields_of, mask_of, tag_of};
@@ -55,6 +55,7 @@ pub fn active_index<N: Name>(space: &Space<N>, seat: &mut LockSeat<N>, base: u64
     requires group { IsActiveIndex seat.old (base + 8) }
     requires inside { AreInSpace N.start.pages seat.old.desk.groups }
     ensures small { result < 32 }
+    ensures index { ReadsIndex seat.old base result seat.new }
     ensures reads { Reads seat.old seat.new }
 {
     (space.load_seat(seat, base + ACTIVE) & 31) as u32
@@ -74,6 +75,7 @@ pub fn activate<N: Name>(
     requires lowest { lowest ≤ group.now.last }
     ensures reached { lowest ≤ result }
     ensures small { result < 32 }
+    ensures within { IsRaisedTo seat.old group.now.base group.now.last result seat.new }
     ensures reads { Reads seat.old seat.new }
 {
     let mut active = active_index(space, seat, group.base);

@@ -1,5 +1,6 @@
-use Rattle.std.proofs.Common.{◌≡◌, ◌+◌, ◌*◌, ◌<◌, ◌≤◌, arith}
-use Rattle.ng_serve.proofs.Fields.{index_cell, index_reads}
+use Rattle.std.proofs.Common.{◌≡◌, ◌+◌, ◌*◌, ◌<◌, ◌≤◌, refl, arith}
+use Rattle.std.proofs.lemmas.Nat.{and_mask}
+use Rattle.ng_serve.proofs.Fields.{index_cell, index_reads, reads_index}
 use Rattle.ng_serve.proofs.group.active_index.Goals as goal
 
 pub overflow_add-base : goal.overflow_add-base
@@ -21,5 +22,8 @@ load_seat-requires-clause-inside g c =
     let inside = cell.inside in
     omega arith
 
+pub returns-clause-index : goal.returns-clause-index
+returns-clause-index g c = reads_index _ _ c.args.base _ _ c.requires.group c.load_seat.ensures.view (and_mask c.load_seat.result 5)
+
 pub returns-clause-reads : goal.returns-clause-reads
-returns-clause-reads g c = index_reads _ _ c.args.base _ c.requires.group c.load_seat.ensures.view
+returns-clause-reads g c = index_reads _ _ c.args.base _ (reads_index _ _ c.args.base _ _ c.requires.group c.load_seat.ensures.view refl)
