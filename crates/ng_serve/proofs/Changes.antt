@@ -11,7 +11,7 @@ use Rattle.ng_view.specs.declared.view.Held.{Held}
 use Rattle.ng_view.specs.declared.view.View.{View}
 use Rattle.ng_lock_moves.specs.Fetches.{HasGroup, PushesFreed, StocksAvail}
 use Rattle.ng_mask.specs.Fetches.{Stocks, Takes}
-use Rattle.ng_serve.specs.Reads.{Notes, with_notes}
+use Rattle.ng_serve.specs.Reads.{Reads}
 use Rattle.ng_serve.specs.Takes.{ChangesMasks, with_masks}
 use Rattle.ng_serve.proofs.Readings.{among_if}
 
@@ -38,14 +38,14 @@ seen_keep m bits k i (x ∷ xs) ne s = by_test (seen_keep m bits k i xs ne) (eqb
     by_test ih false c is (inr s) = inr (ih s)
 
 -- ---- steps one after the other
-pub changes_notes : (v w : View) (meta : ℕ) → Notes v w → ChangesMasks v meta w
-changes_notes v w meta notes = record {
-  words = notes.words;
-  view = notes.view ∙ ap (λ (hs : List Held). record (with_notes v w notes.words) { held = hs }) (sym (ap (λ (x : View). x.held) notes.view));
-  zero_avail = λ m ne s. notes.zero_avail m s;
-  zero_freed = λ m ne s. notes.zero_freed m s;
-  set_freed = λ m i ne s. notes.set_freed (m, i) s;
-}
+pub changes_reads : (v w : View) (meta : ℕ) → Reads v w → ChangesMasks v meta w
+changes_reads v w meta reads = subst (ChangesMasks v meta) (sym reads.view) (record {
+  words = reads.words;
+  view = refl;
+  zero_avail = λ m ne s. s;
+  zero_freed = λ m ne s. s;
+  set_freed = λ m i ne s. s;
+})
 
 pub changes_none : (v w : View) (meta : ℕ) → w ≡ v → ChangesMasks v meta w
 changes_none v w meta is = subst (ChangesMasks v meta) (sym is) (record {

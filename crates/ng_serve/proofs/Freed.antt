@@ -22,8 +22,8 @@ use Rattle.ng_mask.proofs.Motion.{SplitsInto, bits_of-pow, others_are_left, part
 use Rattle.ng_serve.specs.Reads.{Reads}
 use Rattle.ng_serve.specs.Takes.{ChangesMasks, HasFreed, StocksFreed, TakesFreed}
 use Rattle.ng_serve.proofs.Fields.{lives_then}
-use Rattle.ng_serve.proofs.Readings.{notes_reads, reads_then}
-use Rattle.ng_serve.proofs.Changes.{changes_groups, changes_listed, changes_notes, changes_stocked, changes_taken, changes_then, stocked_held}
+use Rattle.ng_serve.proofs.Readings.{reads_then}
+use Rattle.ng_serve.proofs.Changes.{changes_groups, changes_listed, changes_reads, changes_stocked, changes_taken, changes_then, stocked_held}
 
 -- ---- the low bits of a mask
 bit_at_mod : (n k i : ℕ) → i < k → bit_at n i ≡ bit_at (n % 2 ^ k) i
@@ -151,6 +151,6 @@ stocks_then v r s u w meta upto taken has first second takes none some =
     let reads = reads_then v r s first second in
     let stocks = stocks_all s u meta upto taken (lives_then v s meta reads has) takes w none some in
     record {
-      changes = changes_then v s w meta (changes_notes v s meta (notes_reads v s reads)) stocks.changes;
+      changes = changes_then v s w meta (changes_reads v s meta reads) stocks.changes;
       held = stocks.held ∙ ap (λ (x : View). x.held) reads.view;
     }

@@ -2,3 +2,5 @@ pub mod Readings
 pub mod Fields
 pub mod Changes
 pub mod Freed
+pub mod Looks
+pub mod Walks

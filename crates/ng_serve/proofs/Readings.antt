@@ -6,7 +6,7 @@ use Rattle.ng_view.specs.LockSteps.{avail_read, read_bits}
 use Rattle.ng_view.specs.Steps.{read}
 use Rattle.ng_view.specs.declared.view.View.{View}
 use Rattle.ng_lock_moves.specs.Loads.{freed_read}
-use Rattle.ng_serve.specs.Reads.{IsBareIn, Notes, Reads, with_notes}
+use Rattle.ng_serve.specs.Reads.{IsBareIn, NotesBy, Reads, with_notes}
 
 -- ---- what is among the elements of one list is among those of two
 pub among_left : {A : Type 0} (xs ys : List A) (x : A) → Among x xs → Among x (xs ++ ys)
@@ -41,43 +41,56 @@ pub reads_groups : (v w : View) → Reads v w → w.desk.groups ≡ v.desk.group
 reads_groups v w reads = ap (λ (x : View). x.desk.groups) reads.view
 
 -- ---- and notes of masks
-pub notes_reads : (v w : View) → Reads v w → Notes v w
-notes_reads v w reads = subst (Notes v) (sym reads.view) (record {
-  words = reads.words;
+pub notes_reads : (v w : View) (reads : Reads v w) → NotesBy v reads.words w
+notes_reads v w reads = subst (NotesBy v reads.words) (sym reads.view) (record {
   view = refl;
   zero_avail = λ m s. s;
   zero_freed = λ m s. s;
   set_freed = λ b s. s;
 })
 
-pub notes_then : (v u w : View) → Notes v u → Notes u w → Notes v w
-notes_then v u w first second = record {
-  words = first.words ++ second.words;
+pub notes_then : (v u w : View) (ws xs : List (ℕ × ℕ)) → NotesBy v ws u → NotesBy u xs w → NotesBy v (ws ++ xs) w
+notes_then v u w ws xs first second = record {
   view = second.view
-      ∙ ap (λ (x : View). with_notes x w second.words) first.view
-      ∙ ap (λ (l : List (ℕ × ℕ)). record (with_notes v w []) { readings = l }) (append_assoc v.readings first.words second.words);
+      ∙ ap (λ (x : View). with_notes x w xs) first.view
+      ∙ ap (λ (l : List (ℕ × ℕ)). record (with_notes v w []) { readings = l }) (append_assoc v.readings ws xs);
   zero_avail = λ m s. second.zero_avail m (first.zero_avail m s);
   zero_freed = λ m s. second.zero_freed m (first.zero_freed m s);
   set_freed = λ b s. second.set_freed b (first.set_freed b s);
 }
 
-pub notes_groups : (v w : View) → Notes v w → w.desk.groups ≡ v.desk.groups
-notes_groups v w notes = ap (λ (x : View). x.desk.groups) notes.view
+pub notes_groups : (v w : View) (words : List (ℕ × ℕ)) → NotesBy v words w → w.desk.groups ≡ v.desk.groups
+notes_groups v w words notes = ap (λ (x : View). x.desk.groups) notes.view
 
-pub notes_avail : (v w : View) (m a n : ℕ) → w ≡ read (avail_read v m n) a n → Notes v w
-notes_avail v w m a n is = subst (Notes v) (sym is) (record {
-  words = (a, n) ∷ [];
+pub notes_avail : (v w : View) (m a n : ℕ) → w ≡ read (avail_read v m n) a n → NotesBy v ((a, n) ∷ []) w
+notes_avail v w m a n is = subst (NotesBy v ((a, n) ∷ [])) (sym is) (record {
   view = refl;
   zero_avail = λ k s. among_if (eqb (n % 4294967296) 0) m k v.desk.zero_avail s;
   zero_freed = λ k s. s;
   set_freed = λ b s. s;
 })
 
-pub notes_freed : (v w : View) (m a n : ℕ) → w ≡ read (freed_read v m n) a n → Notes v w
-notes_freed v w m a n is = subst (Notes v) (sym is) (record {
-  words = (a, n) ∷ [];
+pub notes_freed : (v w : View) (m a n : ℕ) → w ≡ read (freed_read v m n) a n → NotesBy v ((a, n) ∷ []) w
+notes_freed v w m a n is = subst (NotesBy v ((a, n) ∷ [])) (sym is) (record {
   view = refl;
   zero_avail = λ k s. s;
   zero_freed = λ k s. among_if (eqb n 0) m k v.desk.zero_freed s;
   set_freed = λ b s. among_right (read_bits m n) v.desk.set_freed b s;
 })
+
+-- what was read to be bare still was, among more words
+pub bare_left : (ws xs : List (ℕ × ℕ)) (m : ℕ) → IsBareIn ws m → IsBareIn (ws ++ xs) m
+bare_left ws xs m bare = record {
+  avail = bare.avail;
+  no_avail = bare.no_avail;
+  avail_read = among_left ws xs (m + 24, bare.avail) bare.avail_read;
+  freed_read = among_left ws xs (m + 28, 0) bare.freed_read;
+}
+
+pub bare_right : (ws xs : List (ℕ × ℕ)) (m : ℕ) → IsBareIn xs m → IsBareIn (ws ++ xs) m
+bare_right ws xs m bare = record {
+  avail = bare.avail;
+  no_avail = bare.no_avail;
+  avail_read = among_right ws xs (m + 24, bare.avail) bare.avail_read;
+  freed_read = among_right ws xs (m + 28, 0) bare.freed_read;
+}

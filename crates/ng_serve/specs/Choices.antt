@@ -1,10 +1,10 @@
 -- A group of a ring whose freed slots are to be taken.
-use Rattle.std.specs.Prelude.{◌≡◌, ℕ, ◌+◌, ◌%◌, ◌^◌, ◌<◌, ◌≤◌, List, Contains}
+use Rattle.std.specs.Prelude.{◌≡◌, ℕ, ◌+◌, ◌%◌, ◌^◌, ◌<◌, ◌≤◌, List, [], ◌∷◌, Contains}
 use Rattle.std.specs.Int.{bit_at}
 use Rattle.ng_view.specs.Lists.{Among}
 use Rattle.ng_view.specs.declared.view.View.{View}
 use Rattle.ng_mask.specs.Fetches.{OfGroup}
-use Rattle.ng_serve.specs.Reads.{IsBareIn, Notes}
+use Rattle.ng_serve.specs.Reads.{IsBareIn, NotesBy}
 use Rattle.ng_serve.specs.declared.choosing.Choice.{Choice}
 
 -- the avail mask of each meta of the ring is noted as 0
@@ -19,20 +19,20 @@ pub record IsChoice (v : View) (choice : Choice) : Type 0 where
 
 -- the avail mask of a meta was read to be 0 and then its freed mask, whose bits are noted and are of the group's slots
 pub record ReadsMasks (v : View) (meta freed : ℕ) (w : View) : Type 0 where
-  pub notes : Notes v w
-  pub avail : ℕ
-  pub no_avail : avail % 2 ^ 32 ≡ 0
-  pub avail_read : Among {A = ℕ × ℕ} (meta + 24, avail) notes.words
-  pub freed_read : Among {A = ℕ × ℕ} (meta + 28, freed) notes.words
-  pub noted : (i : ℕ) → i < 32 → bit_at freed i ≡ 1 → Among {A = ℕ × ℕ} (meta, i) w.desk.set_freed
+  pub word : ℕ
+  pub no_avail : word % 2 ^ 32 ≡ 0
+  pub noted : NotesBy v ((meta + 24, word) ∷ (meta + 28, freed) ∷ []) w
+  pub bits : (i : ℕ) → i < 32 → bit_at freed i ≡ 1 → Among {A = ℕ × ℕ} (meta, i) w.desk.set_freed
   pub within : (i : ℕ) → i < 32 → bit_at freed i ≡ 1 → OfGroup v meta (λ g. i ≤ g.last)
 
--- one meta was read to be bare
+-- words were read, among them both masks of a meta, which were 0
 pub record FindsBare (v : View) (meta : ℕ) (w : View) : Type 0 where
-  pub notes : Notes v w
-  pub bare : IsBareIn notes.words meta
+  pub words : List (ℕ × ℕ)
+  pub noted : NotesBy v words w
+  pub bare : IsBareIn words meta
 
--- each meta of the ring was
+-- and those of each meta of a ring
 pub record FindsAllBare (v : View) (ring : List ℕ) (w : View) : Type 0 where
-  pub notes : Notes v w
-  pub bare : (meta : ℕ) → Contains ring meta → IsBareIn notes.words meta
+  pub words : List (ℕ × ℕ)
+  pub noted : NotesBy v words w
+  pub bare : (meta : ℕ) → Contains ring meta → IsBareIn words meta

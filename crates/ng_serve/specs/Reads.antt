@@ -15,13 +15,17 @@ with_notes v w words = record v {
   readings = v.readings ++ words;
 }
 
--- words were read, and more is noted of masks: all that was noted still is
-pub record Notes (v w : View) : Type 0 where
-  pub words : List (ℕ × ℕ)
+-- these words were read, and more is noted of masks: all that was noted still is
+pub record NotesBy (v : View) (words : List (ℕ × ℕ)) (w : View) : Type 0 where
   pub view : w ≡ with_notes v w words
   pub zero_avail : (m : ℕ) → Among m v.desk.zero_avail → Among m w.desk.zero_avail
   pub zero_freed : (m : ℕ) → Among m v.desk.zero_freed → Among m w.desk.zero_freed
   pub set_freed : (b : ℕ × ℕ) → Among b v.desk.set_freed → Among b w.desk.set_freed
+
+-- some words were
+pub record Notes (v w : View) : Type 0 where
+  pub words : List (ℕ × ℕ)
+  pub noted : NotesBy v words w
 
 -- both masks of the meta were read to be 0
 pub record IsBareIn (words : List (ℕ × ℕ)) (meta : ℕ) : Type 0 where
