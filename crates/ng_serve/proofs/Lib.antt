@@ -4,3 +4,4 @@ pub mod Changes
 pub mod Freed
 pub mod Looks
 pub mod Walks
+pub mod Candidates

@@ -94,7 +94,7 @@ pub fn choose<N: Name>(
         }
         meta = rings.next(meta);
         if meta == start {
-            return best.map(|offer| offer.choice);
+            return Some(best?.choice);
         }
     }
 }
