@@ -5,3 +5,4 @@ pub mod Freed
 pub mod Looks
 pub mod Walks
 pub mod Candidates
+pub mod Puts

@@ -41,9 +41,10 @@ pub record StocksFreed (v : View) (meta : ℕ) (w : View) : Type 0 where
   pub changes : ChangesMasks v meta w
   pub held : w.held ≡ v.held
 
--- the slots of these bits are out of the seat
+-- the slots of these bits, if there are any, are out of the seat; of avail nothing changes
 pub record PutsBits (v : View) (meta bits : ℕ) (w : View) : Type 0 where
   pub changes : ChangesMasks v meta w
+  pub avail : w.desk.zero_avail ≡ v.desk.zero_avail
   pub held : w.held ≡ let_go meta (bits_of bits) v.held
 
 -- a live group of that meta may have slots in its masks: its slots have the whole size of a class below 48, and it is
@@ -55,7 +56,7 @@ pub record IsServed (v : View) (meta : ℕ) : Type 0 where
   pub plain : IsPlain group
   pub listed : Among meta v.desk.listed
 
--- among these slots is one without a block
+-- that slot is among these, and has no block
 pub record HasBare (held : List Held) (meta index : ℕ) : Type 0 where
   pub few : index < 32
   pub slot : Held

@@ -8,13 +8,16 @@ ghost use Rattle.ng_serve.specs.Takes.{HasBare, HasCaptured, IsServed, PutsBits,
 use ng_mask::stock;
 use ng_space::{LockSeat, Name, Space};
 
-/// Sets these bits in a group's freed mask, whose slots were in the seat, in motion.
+/// Sets these bits in a group's freed mask, whose slots were in the seat, in motion. Nothing is done where there are
+/// none.
 pub fn put_bits<N: Name>(space: &Space<N>, seat: &mut LockSeat<N>, meta: u64, bits: u32)
     requires place { IsMetaPlace meta N.start.pages }
-    requires may { MayPutBack seat.old meta bits }
+    requires may { 0 < bits → MayPutBack seat.old meta bits }
     ensures { PutsBits seat.old meta bits seat.new }
 {
-    space.push_parent(seat, meta, bits);
+    if bits != 0 {
+        space.push_parent(seat, meta, bits);
+    }
 }
 
 /// Sets the bit of one slot in its group's freed mask, which was in the seat, in motion.
@@ -42,9 +45,7 @@ pub fn put_captured<N: Name>(
     ensures { PutsCaptured seat.old meta masks.0 masks.1 index seat.new }
 {
     let (avail, freed) = masks;
-    if freed != 0 {
-        put_bits(space, seat, meta, freed);
-    }
+    put_bits(space, seat, meta, freed);
     stock(space, seat, meta, avail);
     put_slot(space, seat, meta, index);
 }

@@ -13,12 +13,7 @@ use ng_space::{LockSeat, Name, Space};
 
 /// Takes the freed slots 0 to `upto` of a live group, one of which is noted, out of its freed mask. The lowest is the
 /// answer and in the seat, in motion; the others are in the avail mask, which was noted as 0.
-pub fn take_freed<N: Name>(
-    space: &Space<N>,
-    seat: &mut LockSeat<N>,
-    meta: u64,
-    upto: u32,
-) -> u32
+pub fn take_freed<N: Name>(space: &Space<N>, seat: &mut LockSeat<N>, meta: u64, upto: u32) -> u32
     requires place { IsMetaPlace meta N.start.pages }
     requires live { HasGroup seat.old meta }
     requires bare { Among meta seat.old.desk.zero_avail }
