@@ -1,13 +1,11 @@
 -- Runs become areas, and go.
-use Rattle.std.proofs.Common.{◌≡◌, ◌≢◌, ◌⊎◌, ℕ, ◌+◌, ◌*◌, ◌/◌, ◌%◌, ◌<◌, ◌≤◌, false, List, [], ◌∷◌, ◌++◌, refl, sym, ap, ◌∙◌, subst, ⊎_elim, inl, inr, append_assoc, arith}
+use Rattle.std.proofs.Common.{◌≡◌, ◌⊎◌, ℕ, ◌+◌, ◌*◌, ◌/◌, ◌%◌, ◌<◌, ◌≤◌, false, [], ◌∷◌, ◌++◌, refl, sym, ap, ◌∙◌, subst, ⊎_elim, inl, inr, append_assoc, arith}
 use Rattle.std.specs.Prelude.{bit_and}
 use Rattle.std.proofs.lemmas.Nat.{and_mask}
 use Rattle.ng_view.specs.Conditions.{AreaBuilt, Builds, Sees}
 use Rattle.ng_view.specs.Layouts.{IsAreaAt}
 use Rattle.ng_view.specs.LockSteps.{area_made, built, cells_off, run_left}
-use Rattle.ng_view.specs.Lists.{Among}
 use Rattle.ng_view.specs.Steps.{read}
-use Rattle.ng_view.specs.declared.view.Run.{Run}
 use Rattle.ng_view.specs.declared.view.Start.{Start}
 use Rattle.ng_view.specs.declared.view.View.{View}
 use Rattle.ng_lock_moves.specs.Notes.{IsClearedRun, NotesArea, NotesRun, plain_run}
@@ -33,7 +31,7 @@ module _ (v u : View) (base pages : ℕ) (idle : IsIdleRun v base pages) where
       gone_view =
           let r = plain_run base pages in
           let e : w ≡ knowing (without_run v base) (cells_off base (base + 4096 * pages) u.desk.cells) (u.readings ++ (0, told.found) ∷ []) =
-              told.view ∙ ap (λ x. read (run_left x r) 0 told.found) only.view in
+          told.view ∙ ap (λ x. read (run_left x r) 0 told.found) only.view in
           subst (OnlyCells (without_run v base)) (sym e)
           (record { view = refl; came = only.came ++ (0, told.found) ∷ []; readings = ap (λ rs. rs ++ (0, told.found) ∷ []) only.readings ∙ append_assoc v.readings only.came ((0, told.found) ∷ []) })
 

@@ -6,7 +6,6 @@ use Rattle.ng_view.specs.Layouts.{InArea}
 use Rattle.ng_view.specs.LockSteps.{built, learnt_free}
 use Rattle.ng_view.specs.Lists.{Among}
 use Rattle.ng_view.specs.Steps.{read}
-use Rattle.ng_view.specs.declared.view.Group.{Group}
 use Rattle.ng_view.specs.declared.view.Layout.{Layout}
 use Rattle.ng_view.specs.declared.view.View.{View}
 use Rattle.ng_lock_moves.specs.Loads.{Loads}
@@ -60,7 +59,7 @@ builds_run v base pages a idle al low high = (al, inl (record { run = plain_run 
 pub record Clears (v : View) (from to : ℕ) (w : View) : Type 0 where
   pub view : OnlyCells v w
   pub zero : AreZero w from to
-  pub kept : (b x : ℕ) → (b < from) ⊎ (to ≤ b) → Sees v b x → Sees w b x
+  pub kept : KeepsOutside v w from to
 
 pub clears_none : (v : View) (from : ℕ) → Clears v from (from + 4 * 0) v
 clears_none v from = record { view = only_none v; zero = λ b al low high. absurd (omega arith); kept = λ b x out s. s }
@@ -81,9 +80,6 @@ one_more v w u from k whole c only here others = record {
 }
 
 module _ (v w : View) (from cells k : ℕ) (whole : from % 4 ≡ 0) (all : BuildsAll v from (from + 4 * cells)) (c : Clears v from (from + 4 * k) w) (less : k < cells) where
-  a : ℕ
-  a = from + 4 * k
-
   builds_next : Builds w (from + 4 * k)
   builds_next = builds_only v w (from + 4 * k) c.view (all (from + 4 * k) (omega arith) (omega arith) (omega arith))
 

@@ -1,14 +1,15 @@
 -- The head of a group in a slot, and the headers of its slots, as they are written and cleared.
-use Rattle.std.proofs.Common.{◌≡◌, ◌≢◌, ◌⊎◌, ℕ, ◌+◌, ◌-◌, ◌*◌, ◌/◌, ◌%◌, ◌^◌, ◌<◌, ◌≤◌, refl, sym, ap, ◌∙◌, subst, ⊎_elim, inl, inr, mul-le-mul_left, arith}
-use Rattle.std.specs.Prelude.{Some}
+use Rattle.std.proofs.Common.{◌≡◌, ◌≢◌, ℕ, ◌+◌, ◌-◌, ◌*◌, ◌/◌, ◌%◌, ◌^◌, ◌<◌, ◌≤◌, refl, sym, ap, ◌∙◌, subst, ⊎_elim, inl, inr, mul-le-mul_left, arith}
 use Rattle.std.proofs.lemmas.Bool.{cases_eq, cases_lt}
+use Rattle.ng_class.specs.Class.{IsLeastClass, unit_table, units_of}
 use Rattle.ng_class.specs.Slot.{stride_of}
-use Rattle.ng_class.proofs.Slots.{stride_of_aligned, stride_of_least}
+use Rattle.ng_class.proofs.Classes.{units_of_rises}
+use Rattle.ng_class.proofs.Slots.{stride_of_least, stride_of_several}
 use Rattle.ng_header.specs.Header.{IsInRange, cell_with}
 use Rattle.ng_header.specs.declared.header.Ib.{Ib}
-use Rattle.ng_geometry.proofs.Strides.{stride_whole, times_whole}
+use Rattle.ng_geometry.proofs.Strides.{times_whole}
 use Rattle.ng_geometry.proofs.Lists.{find_among, is_at-true}
-use Rattle.ng_view.specs.Places.{header, reach, stride}
+use Rattle.ng_view.specs.Places.{IsClass, size_of, stride}
 use Rattle.ng_view.specs.declared.view.Group.{Group}
 use Rattle.ng_view.specs.declared.view.View.{View}
 use Rattle.ng_lock_moves.specs.Stores.{FitsMotion, Stores}
@@ -30,8 +31,8 @@ carrier_after v w c g has o = record {
   found = slot_found v w c.meta c.index has.slot has.found o;
   storage = has.storage;
   step = has.step;
+  within = has.within;
   few = has.few;
-  near = has.near;
   begins = has.begins;
   nested = has.nested;
   fits = has.fits;
@@ -77,21 +78,56 @@ module _ (v : View) (m i base room : ℕ) (has : HasSlotAt v m i base room) (who
         head_active = p3.here
 
 -- ---- the header of the carrier
+units_24 : units_of 24 ≡ 146
+unfolding unit_table
+units_24 = refl
+
+-- a class that is the least for a nested group has at most 146 units
+few_units : (n class : ℕ) → n ≤ 2044 → IsLeastClass n class → units_of class ≤ 146
+few_units n class small is =
+    let limit : units_of 24 ≡ 146 = units_24 in
+    ⊎_elim
+    (λ (l : class < 24). let r = units_of_rises class 24 l (omega arith) in omega arith)
+    (λ (l : 24 ≤ class). ⊎_elim
+    (λ (e : class ≡ 24). let same : units_of class ≡ units_of 24 = ap units_of e in omega arith)
+    (λ (ne : class ≢ 24). absurd (let r = is.least 24 (omega arith) in omega arith))
+    (cases_eq class 24))
+    (cases_lt class 24)
+
+-- and so the slots of a group of such a class are near its first
+near : (p : Group) (i n : ℕ) → i ≤ p.last → p.last < 32 → n ≤ 2044 → IsClass p.tag n → stride p * i < 1048576
+unfolding stride
+near p i n within few small is = ⊎_elim
+    (λ (some : 0 < p.last).
+    let class : ℕ = is.1 in
+    let e : stride p ≡ 16 * units_of (p.tag - 1) = stride_of_several (p.tag - 1) p.last p.maplen some in
+    let same : units_of (p.tag - 1) ≡ units_of class = ap units_of (let t : p.tag ≡ class + 1 = is.2 in let q : p.tag - 1 ≡ class = omega arith in q) in
+    let u = few_units n class small is.3 in
+    let m : stride p * i ≤ stride p * 31 = mul-le-mul_left (stride p) (let l : i ≤ 31 = omega arith in l) in
+    omega arith)
+    (λ (none : p.last ≤ 0). let z : stride p * i ≡ stride p * 0 = ap (λ k. stride p * k) (let q : i ≡ 0 = omega arith in q) in omega arith)
+    (cases_lt 0 p.last)
+
 module _ (v : View) (c : Carrier) (g : Group) (has : HasCarrier v c g) where
-  at : g.base ≡ c.storage + c.stride * c.index
+  index : has.slot.place.index ≡ c.index
+  index = (is_at-true c.meta c.index has.slot.place (find_among c.meta c.index v.held has.slot has.found).1).1
+
+  at : g.base ≡ c.storage + stride has.slot.place.group * has.slot.place.index
   at =
-      let index : has.slot.place.index ≡ c.index = (is_at-true c.meta c.index has.slot.place (find_among c.meta c.index v.held has.slot has.found).1).1 in
-      let p : stride has.slot.place.group * has.slot.place.index ≡ c.stride * c.index = ap (λ n. stride has.slot.place.group * n) index ∙ ap (λ n. n * c.index) (sym has.step) in
       let b : g.base ≡ has.slot.place.group.base + 16 + stride has.slot.place.group * has.slot.place.index = has.begins in
       let s = has.storage in
       omega arith
 
   pub offset_low : (g.base - c.storage) / 16 < 2 ^ 16
-  offset_low = let e = at in let n : c.stride * c.index < 1048576 = has.near in let p : 2 ^ 16 ≡ 65536 = refl in omega arith
+  offset_low =
+      let e = at in
+      let n = near has.slot.place.group has.slot.place.index (size_of g + 12) has.within has.few (let s = has.nested.small in omega arith) has.nested.parent in
+      let p : 2 ^ 16 ≡ 65536 = refl in
+      omega arith
 
   pub in_range : (ib : Ib) → ib.index ≡ c.index → ib.reserved ≡ 6 → ib.offset ≡ (g.base - c.storage) / 16 → IsInRange ib
-  in_range ib index reserved offset = record {
-    index = (let f = has.few in omega arith);
+  in_range ib same reserved offset = record {
+    index = (let w = has.within in let f = has.few in let i = index in omega arith);
     reserved = omega arith;
     offset = subst (λ n. n < 2 ^ 16) (sym offset) offset_low;
   }
@@ -151,9 +187,6 @@ pub no_headers : (v : View) (m i base step room : ℕ) → HasSlotAt v m i base 
 no_headers v m i base step room has = record { only = slot_none v m i has.slot has.found; lows = λ j lt. absurd (omega arith); kept = λ a x lt s. s }
 
 module _ (v w : View) (m i base step room last count k : ℕ) (has : HasSlotAt v m i base room) (whole : base % 16 ≡ 0) (aligned : step % 16 ≡ 0) (least : 16 ≤ step) (headers : HasHeaders step last room count) (less : k < count) (done : WritesHeaders v m i base step k w) where
-  a : ℕ
-  a = base + 12 + step * k
-
   still : HasSlotAt w m i base room
   still = slot_after v w m i base room has done.only
 

@@ -1,5 +1,5 @@
 -- The cells of a new group's meta.
-use Rattle.std.proofs.Common.{◌≡◌, ◌≢◌, ◌⊎◌, ℕ, ◌+◌, ◌-◌, ◌*◌, ◌/◌, ◌%◌, ◌<◌, ◌≤◌, refl, sym, ap, ◌∙◌, subst, inl, inr, arith}
+use Rattle.std.proofs.Common.{◌≡◌, ◌⊎◌, ℕ, ◌+◌, ◌-◌, ◌*◌, ◌%◌, ◌<◌, ◌≤◌, refl, ap, ◌∙◌, inl, inr, arith}
 use Rattle.ng_class.proofs.Slots.{stride_of_several}
 use Rattle.ng_view.specs.Conditions.{Builds, Sees}
 use Rattle.ng_view.specs.Layouts.{IsKind}

@@ -1,13 +1,13 @@
 -- A group is built in a slot, and published.
-use Rattle.std.proofs.Common.{◌≡◌, ◌≢◌, ◌⊎◌, ℕ, ◌+◌, ◌-◌, ◌*◌, ◌/◌, ◌%◌, ◌<◌, ◌≤◌, eqb, cond, List, [], ◌∷◌, refl, sym, ap, ◌∙◌, subst, ⊎_elim, inl, inr, arith}
+use Rattle.std.proofs.Common.{◌≡◌, ℕ, ◌+◌, ◌*◌, ◌<◌, ◌≤◌, eqb, cond, List, [], ◌∷◌, refl, sym, ap, ◌∙◌, subst, ⊎_elim, inl, inr, arith}
 use Rattle.std.specs.Prelude.{Some}
 use Rattle.ng_geometry.proofs.Lists.{find_among, is_at-true}
-use Rattle.ng_view.specs.Blocks.{Knows}
 use Rattle.ng_view.specs.Conditions.{Sees}
 use Rattle.ng_view.specs.Layouts.{IsKind, IsNested}
 use Rattle.ng_view.specs.LockSteps.{cells_off, nested_in}
 use Rattle.ng_view.specs.Lists.{edit, find, without}
 use Rattle.ng_view.specs.Places.{header, slot_end, slot_start, stride, units}
+use Rattle.ng_view.specs.Steps.{in_motion}
 use Rattle.ng_view.specs.declared.view.Group.{Group}
 use Rattle.ng_view.specs.declared.view.Held.{Held}
 use Rattle.ng_view.specs.declared.view.View.{View}
@@ -102,28 +102,28 @@ module _ (v w1 w2 : View) (c : Carrier) (d : Draft) (blank : IsBlankMeta v d.met
       unfolding slot_builds
       is_published = p.nested slot_builds
 
-      left_2 : without has.slot.place.group.meta has.slot.place.index w2.held ≡ without has.slot.place.group.meta has.slot.place.index v.held
+      left_2 : without has.slot.place.group.meta has.slot.place.index w2.held ≡ without c.meta c.index v.held
       left_2 =
-          let hm = has.slot.place.group.meta in let hi = has.slot.place.index in
-          ap (λ (x : View). without hm hi x.held) only.view
+          let hi = has.slot.place.index in
+          ap (λ (x : View). without has.slot.place.group.meta hi x.held) only.view
           ∙ ap (λ n. without n hi (edit c.meta c.index (recalling only.cells) v.held)) at_meta
           ∙ ap (λ n. without c.meta n (edit c.meta c.index (recalling only.cells) v.held)) at_index
           ∙ without-edit c.meta c.index (recalling only.cells) v.held (λ y. refl)
-          ∙ ap (λ n. without n c.index v.held) (sym at_meta)
-          ∙ ap (λ n. without hm n v.held) (sym at_index)
 
       -- the view by those of the steps before
-      step_3 : nested_in w3 g (0 ∷ []) cs (cond (eqb d.active 0) (d.meta ∷ w3.desk.zero_avail) w3.desk.zero_avail) h ≡ knowing (with_nested w2 g d.active has.slot) cs w2.readings
+      step_3 : nested_in w3 g (0 ∷ []) cs (cond (eqb d.active 0) (d.meta ∷ w3.desk.zero_avail) w3.desk.zero_avail) h ≡ nested_in (knowing w2 cs w2.readings) g (0 ∷ []) cs (cond (eqb d.active 0) (d.meta ∷ w2.desk.zero_avail) w2.desk.zero_avail) h
       step_3 = ap (λ (x : View). nested_in x g (0 ∷ []) cs (cond (eqb d.active 0) (d.meta ∷ x.desk.zero_avail) x.desk.zero_avail) h) (meta_view w2 w3 d e3)
 
-      step_2 : knowing (with_nested w2 g d.active has.slot) cs w2.readings ≡ knowing (with_nested v g d.active has.slot) cs v.readings
-      step_2 =
-          let rest : List Held = without has.slot.place.group.meta has.slot.place.index w2.held in
-          let front : knowing (with_nested w2 g d.active has.slot) cs w2.readings ≡ record (knowing (with_nested v g d.active has.slot) cs v.readings) { held = Rattle.ng_view.specs.Steps.in_motion g 0 ∷ rest } =
-              ap (λ (x : View). record (knowing (with_nested x g d.active has.slot) cs x.readings) { held = Rattle.ng_view.specs.Steps.in_motion g 0 ∷ rest }) only.view in
-          front ∙ ap (λ hs. record (knowing (with_nested v g d.active has.slot) cs v.readings) { held = Rattle.ng_view.specs.Steps.in_motion g 0 ∷ hs }) left_2
+      -- that view, with other slots behind the group's own
+      behind : View → List Held → View
+      behind x hs = record (knowing (with_nested x c.meta c.index g d.active has.slot) cs x.readings) { held = in_motion g 0 ∷ hs }
 
-      is_view : w ≡ knowing (with_nested v g d.active has.slot) cs v.readings
+      step_2 : behind w2 (without has.slot.place.group.meta has.slot.place.index w2.held) ≡ behind v (without c.meta c.index v.held)
+      unfolding behind
+      step_2 = ap (behind w2) left_2 ∙ ap (λ (x : View). behind x (without c.meta c.index v.held)) only.view
+
+      is_view : w ≡ knowing (with_nested v c.meta c.index g d.active has.slot) cs v.readings
+      unfolding behind
       is_view =
           is_published
           ∙ ap (λ (is : List ℕ). nested_in w3 g is cs (cond (eqb (avail_of d.active) 0) (d.meta ∷ w3.desk.zero_avail) w3.desk.zero_avail) h) (moves_first g d.active counted.active counted.last)
@@ -135,7 +135,7 @@ module _ (v w1 w2 : View) (c : Carrier) (d : Draft) (blank : IsBlankMeta v d.met
       slot_publishes = record {
         view = λ k e.
             let q : has.slot ≡ k = cc in
-            by_cells (with_nested v g d.active k) w cs v.readings (is_view ∙ ap (λ y. knowing (with_nested v g d.active y) cs v.readings) q);
+            by_cells (with_nested v c.meta c.index g d.active k) w cs v.readings (is_view ∙ ap (λ y. knowing (with_nested v c.meta c.index g d.active y) cs v.readings) q);
         kept = λ b x out s. subst (λ (y : View). Sees y b x) (sym is_published)
             (off_else d.meta (d.meta + 40) b x w3.desk.cells out (meta_kept w2 w3 d e3 b x out (subst (λ (y : View). Sees y b x) (sym only.view) s)));
       }

@@ -1,9 +1,9 @@
 -- A group is built on a run, and published.
-use Rattle.std.proofs.Common.{◌≡◌, ◌≢◌, ◌⊎◌, ℕ, ◌+◌, ◌-◌, ◌*◌, ◌/◌, ◌%◌, ◌<◌, ◌≤◌, eqb, cond, List, [], ◌∷◌, refl, sym, ap, ◌∙◌, subst, ⊎_elim, inl, inr, mul-le-mul_left, arith}
+use Rattle.std.proofs.Common.{◌≡◌, ◌⊎◌, ℕ, ◌+◌, ◌-◌, ◌*◌, ◌%◌, ◌<◌, ◌≤◌, eqb, cond, List, [], ◌∷◌, refl, sym, ap, ◌∙◌, subst, ⊎_elim, inl, inr, mul-le-mul_left, arith}
 use Rattle.ng_class.proofs.Slots.{stride_of_single}
 use Rattle.ng_geometry.proofs.Strides.{header_cell}
-use Rattle.ng_view.specs.Conditions.{Builds, Built, Sees}
-use Rattle.ng_view.specs.Layouts.{IsKind, IsLoneKind, OnRun}
+use Rattle.ng_view.specs.Conditions.{Built, Sees}
+use Rattle.ng_view.specs.Layouts.{IsKind, OnRun}
 use Rattle.ng_view.specs.LockSteps.{built, cells_off, published, run_published}
 use Rattle.ng_view.specs.Places.{header, reach, stride}
 use Rattle.ng_view.specs.Slots.{IsPlain}
@@ -15,7 +15,7 @@ use Rattle.ng_lock_moves.specs.Notes.{IsClearedRun, plain_run}
 use Rattle.ng_lock_moves.specs.Stores.{Stores}
 use Rattle.ng_lock_moves.proofs.Knowing.{off_else, sees-built}
 use Rattle.ng_build.specs.Cells.{IsIdleMeta, IsIdleRun, OnlyCells, knowing}
-use Rattle.ng_build.specs.Drafts.{FitsRun, IsBlankMeta, IsCounted, IsLarge, avail_of, draft_group, freed_of, with_meta}
+use Rattle.ng_build.specs.Drafts.{FitsRun, IsBlankMeta, IsCounted, avail_of, draft_group, freed_of, with_meta}
 use Rattle.ng_build.specs.Runs.{IsMetaOutside, PublishesRun, with_group}
 use Rattle.ng_build.specs.declared.draft.Draft.{Draft}
 use Rattle.ng_build.proofs.Areas.{run_cell, run_head}

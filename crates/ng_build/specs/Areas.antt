@@ -1,5 +1,5 @@
 -- Areas and runs of the layout, as they come and go.
-use Rattle.std.specs.Prelude.{◌≡◌, ℕ, ◌+◌, ◌*◌, ◌%◌, ◌<◌, true, List, ◌∷◌}
+use Rattle.std.specs.Prelude.{◌≡◌, ℕ, ◌+◌, ◌%◌, ◌<◌, true, List, ◌∷◌}
 use Rattle.ng_meta.specs.Place.{meta_place}
 use Rattle.ng_view.specs.Conditions.{Sees}
 use Rattle.ng_view.specs.LockSteps.{runs_but}

@@ -1,5 +1,5 @@
 -- What a step leaves of the cells that the lock's seat knows.
-use Rattle.std.specs.Prelude.{◌≡◌, ◌⊎◌, ℕ, ◌+◌, ◌%◌, ◌<◌, ◌≤◌, List, ◌++◌}
+use Rattle.std.specs.Prelude.{◌≡◌, ◌⊎◌, ℕ, ◌%◌, ◌<◌, ◌≤◌, List, ◌++◌}
 use Rattle.ng_view.specs.Conditions.{Builds, IsEmpty, IsUnborn, Sees}
 use Rattle.ng_view.specs.Layouts.{InArea}
 use Rattle.ng_view.specs.Lists.{Among}

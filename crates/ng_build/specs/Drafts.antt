@@ -1,5 +1,5 @@
 -- Groups that are to be built.
-use Rattle.std.specs.Prelude.{◌≡◌, ◌⊎◌, ℕ, ◌+◌, ◌-◌, ◌*◌, ◌<◌, ◌≤◌}
+use Rattle.std.specs.Prelude.{◌⊎◌, ℕ, ◌+◌, ◌-◌, ◌*◌, ◌<◌, ◌≤◌}
 use Rattle.ng_class.specs.Mask.{all_bits_of}
 use Rattle.ng_view.specs.Layouts.{IsLoneKind, IsSmallKind}
 use Rattle.ng_view.specs.LockSteps.{built}

@@ -1,5 +1,5 @@
 -- A group that comes to live in a slot of another.
-use Rattle.std.specs.Prelude.{◌≡◌, ◌⊎◌, ℕ, ◌+◌, ◌*◌, ◌%◌, ◌^◌, ◌<◌, ◌≤◌, eqb, cond, List, ◌∷◌, Some}
+use Rattle.std.specs.Prelude.{◌≡◌, ◌⊎◌, ℕ, ◌+◌, ◌*◌, ◌<◌, ◌≤◌, eqb, cond, List, ◌∷◌, Some}
 use Rattle.ng_view.specs.Blocks.{Knows}
 use Rattle.ng_view.specs.Layouts.{IsNested}
 use Rattle.ng_view.specs.Lists.{edit, find, without}
@@ -24,15 +24,15 @@ pub record OnlySlot (v : View) (meta index : ℕ) (w : View) : Type 0 where
 abbrev pub SeesIn : View → ℕ → ℕ → ℕ → ℕ → Type 0
 SeesIn v meta index a x = (h : Held) → find meta index v.held ≡ Some h → Knows a x h
 
--- the seat has the slot of a carrier, and its group's numbers are these. The group g may lie in it, from
--- its start on
+-- the seat has the slot of a carrier, which is one of its group's, whose numbers are these. The group g
+-- may lie in it, from its start on
 pub record HasCarrier (v : View) (c : Carrier) (g : Group) : Type 0 where
   pub slot : Held
   pub found : find c.meta c.index v.held ≡ Some slot
   pub storage : c.storage ≡ slot.place.group.base + 16
   pub step : c.stride ≡ stride slot.place.group
-  pub few : c.index < 32
-  pub near : c.stride * c.index < 2 ^ 20
+  pub within : slot.place.index ≤ slot.place.group.last
+  pub few : slot.place.group.last < 32
   pub begins : g.base ≡ slot_start slot.place
   pub nested : IsNested g slot.place.group
   pub fits : reach g ≤ stride slot.place.group
@@ -60,11 +60,12 @@ AreHeadersLow v meta index g room = (i : ℕ) → i ≤ g.last + 1
 abbrev pub KeepsIn : View → View → ℕ → ℕ → ℕ → Type 0
 KeepsIn v w meta index to = (a x : ℕ) → a < to → SeesIn v meta index a x → SeesIn w meta index a x
 
--- the view with a live group that the slot h carries, which is out of motion: its own slot 0 is in
--- motion, it is listed, and where no other slot is in use, its avail mask is noted as 0
-abbrev pub with_nested : View → Group → ℕ → Held → View
-with_nested v g active h = record v {
-  held = in_motion g 0 ∷ without h.place.group.meta h.place.index v.held;
+-- the view with a live group that the slot h of that meta and index carries, which is out of motion: the
+-- group's own slot 0 is in motion, it is listed, and where no other slot is in use, its avail mask is
+-- noted as 0
+abbrev pub with_nested : View → ℕ → ℕ → Group → ℕ → Held → View
+with_nested v meta index g active h = record v {
+  held = in_motion g 0 ∷ without meta index v.held;
   desk = record v.desk {
     layout = record {
       runs = v.desk.layout.runs;
@@ -80,5 +81,5 @@ with_nested v g active h = record v {
 -- still is
 pub record PublishesSlot (v : View) (meta index : ℕ) (g : Group) (active : ℕ) (w : View) : Type 0 where
   pub view : (h : Held) → find meta index v.held ≡ Some h
-      → w ≡ knowing (with_nested v g active h) w.desk.cells v.readings
+      → w ≡ knowing (with_nested v meta index g active h) w.desk.cells v.readings
   pub kept : KeepsOutside v w g.meta (g.meta + 40)

@@ -50,12 +50,7 @@ pub fn publish_slot<N: Name>(
 }
 
 // The header of the carrier, and the three cells at the group's base.
-fn write_head<N: Name>(
-    space: &Space<N>,
-    seat: &mut LockSeat<N>,
-    draft: &Draft,
-    parent: &Carrier,
-)
+fn write_head<N: Name>(space: &Space<N>, seat: &mut LockSeat<N>, draft: &Draft, parent: &Carrier)
     requires meta { draft.now.meta < 2 ^ 32 }
     requires whole { draft.now.base % 16 ≡ 0 }
     requires inside { draft.now.base + parent.now.stride ≤ 4096 * N.start.pages }
@@ -78,12 +73,7 @@ fn write_head<N: Name>(
 }
 
 // The header cells of the group's slots, and the one behind the last where it is the carrier's own.
-fn write_headers<N: Name>(
-    space: &Space<N>,
-    seat: &mut LockSeat<N>,
-    draft: &Draft,
-    parent: &Carrier,
-)
+fn write_headers<N: Name>(space: &Space<N>, seat: &mut LockSeat<N>, draft: &Draft, parent: &Carrier)
     requires whole { draft.now.base % 16 ≡ 0 }
     requires inside { draft.now.base + parent.now.stride ≤ 4096 * N.start.pages }
     requires last { draft.now.last < 32 }
@@ -107,11 +97,7 @@ fn own_headers(step: u64, last: u32, room: u64) -> u32
     ensures { HasHeaders step last room result }
 {
     let reach = UNIT + step * u64::from(last + 1);
-    if reach == room {
-        last + 1
-    } else {
-        last + 2
-    }
+    if reach == room { last + 1 } else { last + 2 }
 }
 
 /// Makes the three cells 0 where a group began that lay in a slot of the seat.

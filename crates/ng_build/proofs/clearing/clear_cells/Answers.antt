@@ -16,4 +16,5 @@ loop-k-preserved g c = elim c.if-load_seat-ne0.branch [
 ]
 
 pub returns-clause-kept : goal.returns-clause-kept
-returns-clause-kept g c = let all = c.loop-k-test.false in λ b x out s. c.loop-k.invariant.kept b x (⊎_elim (λ (l : b < c.args.from). inl l) (λ (l : c.args.from + 4 * c.args.cells ≤ b). inr (omega (arith, c.loop-k-test.false, c.loop-k.auto.k-end))) out) s
+returns-clause-kept g c = λ b x out.
+    c.loop-k.invariant.kept b x (⊎_elim (λ (l : b < c.args.from). inl l) (λ (l : c.args.from + 4 * c.args.cells ≤ b). inr (omega (arith, c.loop-k-test.false, c.loop-k.auto.k-end))) out)

@@ -1,4 +1,4 @@
-use Rattle.std.proofs.Common.{◌≤◌, ◌-◌, ◌/◌, inr, refl, arith}
+use Rattle.std.proofs.Common.{◌-◌, ◌/◌, inr, refl, arith}
 use Rattle.ng_build.specs.Drafts.{draft_group}
 use Rattle.ng_build.proofs.Heads.{base_fits, carrier_roomy, head_1, head_2, head_base, head_fits, head_high, head_only, headed, header_fits, header_only, in_range}
 use Rattle.ng_build.proofs.Slots.{slot_both}
