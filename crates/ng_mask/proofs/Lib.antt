@@ -4,5 +4,3 @@ pub mod Motion
 pub mod Fetches
 pub mod Trading
 pub mod PopCounts
-pub mod RaceGroup
-pub mod Race

@@ -1,4 +1,3 @@
 pub mod Pops
 pub mod Pushes
 pub mod Fetches
-pub mod Race

@@ -12,6 +12,4 @@ pub use popping::pop;
 pub use pushing::push;
 
 #[cfg(test)]
-mod race_tests;
-#[cfg(test)]
 mod tests;

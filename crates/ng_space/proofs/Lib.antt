@@ -16,10 +16,3 @@ pub mod Lived
 pub mod Annotated
 pub mod Counting
 pub mod Passed
-pub mod Trials
-pub mod Pairs
-pub mod Endings
-pub mod Partings
-pub mod Nests
-pub mod Carrying
-pub mod Ending

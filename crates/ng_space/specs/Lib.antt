@@ -12,5 +12,3 @@ pub mod Placed
 pub mod Masks
 pub mod Tests
 pub mod Passed
-pub mod Trials
-pub mod Nests

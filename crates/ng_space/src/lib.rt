@@ -33,8 +33,4 @@ pub use slot::Slot;
 pub use space::Space;
 
 #[cfg(test)]
-mod lock_tests;
-#[cfg(test)]
-mod nest_tests;
-#[cfg(test)]
 mod tests;

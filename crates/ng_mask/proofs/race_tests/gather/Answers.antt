@@ -1,8 +1,0 @@
-use Rattle.ng_mask.proofs.Race.{has_group, serves-captured}
-use Rattle.ng_mask.proofs.race_tests.gather.Goals as goal
-
-pub capture-avail-requires-clause-live : goal.capture-avail-requires-clause-live
-capture-avail-requires-clause-live g c = has_group _ c.take_back-held.ensures.serves
-
-pub returns-clause-serves : goal.returns-clause-serves
-returns-clause-serves g c = serves-captured _ _ _ _ c.take_back-held.ensures.serves c.capture-avail.ensures.captured

@@ -1,5 +1,0 @@
-use Rattle.ng_mask.specs.Race.{Serves}
-use Rattle.ng_mask.proofs.race_tests.serve.Given as goal
-
-abbrev pub invariant-loop-round : goal.invariant-loop-round
-invariant-loop-round g l = Serves l.seat

@@ -1,5 +1,0 @@
-use Rattle.ng_space.proofs.lock_tests.a_group_lives_and_ends.Given as goal
-
--- the heap that was just made
-abbrev pub ghosts-live_once : goal.ghosts-live_once
-ghosts-live_once g a = record { table = a.blank.table; start = a.blank.start }

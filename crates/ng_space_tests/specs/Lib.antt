@@ -1,0 +1,3 @@
+pub mod Trials
+pub mod Nests
+pub mod Race

@@ -1,0 +1,73 @@
+// A group of two slots, whose life the lock's seat and a hand share.
+ghost use Rattle.std.specs.Prelude.{◌≡◌, ◌∷◌, [], Some};
+ghost use Rattle.ng_view.specs.Lists.{find};
+ghost use Rattle.ng_view.specs.Steps.{in_motion};
+ghost use Rattle.ng_lock_moves.specs.Groups.{HasAllSlots};
+ghost use Rattle.ng_space.specs.Tests.{HasEntered};
+ghost use Rattle.ng_space_tests.specs.Trials.{AreMetasBlank, Stands, page_group, page_runs, trial_start};
+
+use crate::page::{AREA, BASE, META, build_group, end_group, make_area, start};
+use ng_meta::avail_word;
+use ng_space::{Blank, Hand, LockSeat, Name, Space};
+use std::alloc::Global;
+use std::marker::Brand;
+use std::process::Abort;
+use std::test::Fail;
+
+#[test]
+fn a_group_lives_and_ends(rt: HostRuntime) -> Result<(), Fail> {
+    let alloc = rt.alloc();
+    let blank = Blank::new(alloc, start(), &[4])?;
+    live_once::<Brand, _>(&rt, alloc, blank)
+}
+
+fn live_once<N: Name, R: Abort>(rt: &R, alloc: Global, blank: Blank) -> Result<(), Fail>
+    requires table { blank.table ≡ N.table }
+    requires start { blank.start ≡ N.start }
+    requires trial { blank.start ≡ trial_start }
+    requires rooms { blank.rooms ≡ 4 ∷ [] }
+{
+    let (space, mut lock, mut hands) = Space::<N>::open(alloc, blank)?;
+    make_area(&space, &mut lock);
+    build_group(&space, &mut lock, 23, 1, 1 << 1);
+    let hand = &mut hands[0];
+    pass_back(rt, &space, &mut lock, hand);
+    end_group(&space, &mut lock);
+    let (image, _books) = space.close(lock, hands);
+    assert_eq!(rt; image.word(AREA), 0x89ab_cdef);
+    for cell in 0..1024 {
+        assert_eq!(rt; image.word(BASE + 4 * cell), 0, "cell {cell}");
+    }
+    Ok(())
+}
+
+// The hand pops the slot in the avail mask, fails to push it as the first, and passes it to the lock's
+// seat, which finds both masks empty.
+fn pass_back<N: Name, R: Abort>(
+    rt: &R,
+    space: &Space<N>,
+    seat: &mut LockSeat<N>,
+    hand: &mut Hand<N>,
+)
+    requires start { N.start ≡ trial_start }
+    requires stands { Stands seat.old page_runs (page_group 23 1 ∷ []) }
+    requires metas { AreMetasBlank seat.old 1 }
+    requires slot { find 4120 0 seat.old.held ≡ Some (in_motion (page_group 23 1) 0) }
+    ensures stands { Stands seat.new page_runs (page_group 23 1 ∷ []) }
+    ensures metas { AreMetasBlank seat.new 1 }
+    ensures slots { HasAllSlots seat.new 4120 }
+    ensures hand { HasEntered hand.old hand.new }
+{
+    let Ok(slot) = space.pop_step(hand, META, avail_word(23, 1 << 1)) else {
+        panic!(rt; "the slot isn't in the mask")
+    };
+    assert_eq!(rt; slot.index(), 1);
+    assert_eq!(rt; slot.start(), 0x2800);
+    let Err((slot, found)) = space.push_step(hand, slot, 1) else {
+        panic!(rt; "a mask of 0 was found to be 1")
+    };
+    assert_eq!(rt; found, 0);
+    space.slot_to_seat(hand, seat, slot);
+    assert_eq!(rt; space.empty_avail(seat, META), 0);
+    assert_eq!(rt; space.clear_freed(seat, META, u32::MAX), 0);
+}
