@@ -12,3 +12,4 @@ pub mod UsageLemmas
 pub mod MetaLemmas
 pub mod HandLemmas
 pub mod CarrierLemmas
+pub mod FoundedLemmas

@@ -1,3 +1,0 @@
-pub mod MapLemmas
-pub mod AreaLemmas
-pub mod StockLemmas
