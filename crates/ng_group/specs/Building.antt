@@ -1,5 +1,5 @@
 -- Groups that are built.
-use Rattle.std.specs.Prelude.{◌≡◌, ◌≢◌, ℕ, ◌+◌, ◌%◌, ◌<◌, ◌↔◌, ◌&&◌, ◌==◌, ◌∷◌, ◌++◌, [], IsTrue, List, if◌then◌else◌, nat_lt, slice_index, slice_set, ¬◌, Contains}
+use Rattle.std.specs.Prelude.{◌≡◌, ◌≢◌, ℕ, ◌+◌, ◌%◌, ◌<◌, ◌↔◌, ◌&&◌, ◌==◌, ◌∷◌, ◌++◌, [], IsTrue, List, if◌then◌else◌, nat_lt, slice_index, slice_set, Contains}
 use Rattle.ng_lists.specs.Rings.{RingTable, ring_of, rotated, with_ring}
 use Rattle.ng_policy.specs.Bounce.{Bounces, IsBouncing}
 use Rattle.ng_policy.specs.declared.ask.Ask.{Ask}

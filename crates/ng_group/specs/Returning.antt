@@ -1,5 +1,5 @@
 -- Slots that are returned, and groups that end by it.
-use Rattle.std.specs.Prelude.{◌≡◌, ◌≢◌, ◌⊎◌, ℕ, ◌+◌, ◌%◌, ◌^◌, ◌<◌, ◌≤◌, ◌∷◌, ◌++◌, ◌↔◌, [], Bool, Contains, IsTrue, List, None, Some, true, false, slice_index, ¬◌}
+use Rattle.std.specs.Prelude.{◌≡◌, ◌≢◌, ◌⊎◌, ℕ, ◌+◌, ◌*◌, ◌%◌, ◌^◌, ◌<◌, ◌≤◌, ◌∷◌, ◌++◌, ◌↔◌, [], Bool, Contains, IsTrue, List, None, Some, true, false, slice_index}
 use Rattle.ng_class.specs.Class.{units_of}
 use Rattle.ng_class.specs.Mask.{FillsGroup}
 use Rattle.ng_class.specs.Slot.{stride_of}

@@ -1,5 +1,5 @@
 // New groups, on runs of their own and in slots of others.
-ghost use Rattle.std.specs.Prelude.{◌≡◌, ℕ, ◌+◌, ◌*◌, ◌<◌, ◌≤◌, ◌^◌, ¬◌, [], IfErr, OnErr, OnOk, slice_index};
+ghost use Rattle.std.specs.Prelude.{◌≡◌, ℕ, ◌+◌, ◌*◌, ◌<◌, ◌≤◌, ◌^◌, [], IfErr, OnErr, OnOk, slice_index};
 ghost use Rattle.ng_class.specs.Class.{IsLeastClass, units_of};
 ghost use Rattle.ng_meta.specs.Place.{IsMetaPlace};
 ghost use Rattle.ng_policy.specs.Ask.{AskInRange, IsCount};
@@ -20,7 +20,7 @@ use ng_policy::{Ask, Rules};
 use ng_serve::group_of;
 use ng_shelf::{first_active, run_shape};
 use ng_space::{Name, Space};
-use crate::supply::map_run;
+use ng_supply::map_run;
 
 /// The bytes of a group before its first slot.
 const GROUP_HEAD: u64 = 16;

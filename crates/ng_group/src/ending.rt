@@ -1,5 +1,5 @@
 // Groups that end.
-ghost use Rattle.std.specs.Prelude.{◌≡◌, ◌+◌, ◌<◌, ◌≤◌, [], Contains, IfSome, OnNone, OnSome, ¬◌};
+ghost use Rattle.std.specs.Prelude.{◌≡◌, ◌+◌, ◌<◌, ◌≤◌, [], Contains, IfNone, IfSome};
 ghost use Rattle.ng_meta.specs.Place.{IsMetaPlace};
 ghost use Rattle.ng_lists.specs.Rings.{IsListed, ring_of};
 ghost use Rattle.ng_mask.specs.Fetches.{OfGroup};
@@ -36,9 +36,9 @@ impl<N: Name, M: Mapper, P: Rules> Works<N, M, P> {
         ensures rules { self.new.rules ≡ self.old.rules }
         ensures slot { IfSome result (λ slot. HasReturned self.new.seat slot.0 slot.1) }
         ensures above { IfSome result (λ slot. IsAbove group.now.class self.new.seat slot.0) }
-        ensures nested { OnSome result (group.now.maplen ≡ 0) }
-        ensures idle { OnNone result (self.new.seat.held ≡ []) }
-        ensures unmapped { OnNone result (¬ Contains (M.runs self.new.mapper) (group.now.base, group.now.maplen)) }
+        ensures nested { IfSome result (λ slot. group.now.maplen ≡ 0) }
+        ensures idle { IfNone result (self.new.seat.held ≡ []) }
+        ensures unmapped { IfNone result (¬ Contains (M.runs self.new.mapper) (group.now.base, group.now.maplen)) }
     {
         if self.rings.has(meta) {
             self.leave_ring(space, meta, group.class);

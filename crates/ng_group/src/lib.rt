@@ -9,7 +9,6 @@ mod heap_core;
 mod lone;
 mod returning;
 mod serving;
-mod supply;
 mod tables;
 mod works;
 

@@ -13,7 +13,7 @@ use ng_class::{IB, LONE, UNIT};
 use ng_mapper::Mapper;
 use ng_policy::Rules;
 use ng_space::{Name, Space};
-use crate::supply::{find_meta, map_run};
+use ng_supply::{find_meta, map_run};
 
 /// The bytes of a page.
 const PAGE: u64 = 4096;

@@ -19,7 +19,7 @@ use ng_policy::Rules;
 use ng_serve::{Choice, activate, choose, group_of, take_freed};
 use ng_shelf::is_nested_size;
 use ng_space::{Name, Space};
-use crate::supply::find_meta;
+use ng_supply::find_meta;
 
 /// The bytes that a slot serves for a group besides the group's slots: the 16 of the group's own, less the 4 that every
 /// slot has behind its room.

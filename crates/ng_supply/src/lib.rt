@@ -1,0 +1,8 @@
+//! Where the heap's core takes runs and metas from: its mapper and its stock of metas, or the mapper's refusal.
+#![tactic(auto)]
+
+mod meta;
+mod run;
+
+pub use meta::find_meta;
+pub use run::map_run;
