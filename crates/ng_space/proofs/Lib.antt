@@ -19,3 +19,4 @@ pub mod Passed
 pub mod Frames
 pub mod Granting
 pub mod Sending
+pub mod Keeping
