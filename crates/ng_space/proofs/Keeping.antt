@@ -1,10 +1,9 @@
 -- What a hand knows of a block's frame stays known over loads, and over stores in the block's bytes.
-use Rattle.std.proofs.Common.{◌≡◌, ◌⊎◌, ℕ, ◌+◌, ◌-◌, ◌*◌, ◌/◌, ◌%◌, ◌<◌, ◌≤◌, cond, Bool, true, false, List, ◌∷◌, refl, sym, ap, ◌∙◌, subst, ⊎_elim, inl, inr, arith}
-use Rattle.std.specs.Prelude.{Some}
+use Rattle.std.proofs.Common.{◌≡◌, ◌⊎◌, ℕ, ◌+◌, ◌-◌, ◌*◌, ◌/◌, ◌<◌, ◌≤◌, cond, Bool, true, false, List, ◌∷◌, refl, sym, ap, ◌∙◌, ⊎_elim, inl, inr, arith}
 use Rattle.ng_geometry.proofs.Lists.{find_edit}
 use Rattle.ng_moves.proofs.Load.{carries_more, still_knows}
 use Rattle.ng_view.specs.Blocks.{Knows}
-use Rattle.ng_view.specs.Frame.{Frames, IsFramed, IsShift, IsTrailer, KnowsByte}
+use Rattle.ng_view.specs.Frame.{Frames, IsFramed, KnowsByte}
 use Rattle.ng_view.specs.Lists.{Among, find}
 use Rattle.ng_view.specs.Places.{owns_at, slot_end, slot_start}
 use Rattle.ng_view.specs.Steps.{learnt, loaded, stored, wrote}

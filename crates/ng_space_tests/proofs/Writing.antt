@@ -1,5 +1,5 @@
 -- A block in the slot that the hand of the trial pops.
-use Rattle.std.proofs.Common.{◌≡◌, ℕ, ◌+◌, ◌-◌, ◌*◌, ◌/◌, ◌&&◌, ◌<◌, ◌≤◌, eq-eqb, cond, true, refl, sym, ap, ◌∙◌, subst, ⊎_elim, inl, inr, arith}
+use Rattle.std.proofs.Common.{◌≡◌, ℕ, ◌-◌, ◌*◌, ◌/◌, ◌&&◌, ◌<◌, ◌≤◌, eq-eqb, cond, true, refl, sym, ap, ◌∙◌, subst, ⊎_elim, inl, inr, arith}
 use Rattle.std.specs.Prelude.{Some, nat_lt}
 use Rattle.std.proofs.lemmas.Bool.{agree_below_at, cases_lt, ltb-true}
 use Rattle.ng_class.specs.Class as class

@@ -42,4 +42,4 @@ returns-clause-slots g c =
     all_slots _ (taken_stands _ _ empty _ _ c.clear_freed.ensures) (taken_both _ _ empty _ _ c.clear_freed.ensures (emptied_both _ _ came _ c.empty_avail.ensures.2 both))
 
 pub use_slot-slot-requires-clause-serves : goal.use_slot-slot-requires-clause-serves
-use_slot-slot-requires-clause-serves g c = popped_serves _ _ _ _ c.in-Ok.ensures.meta c.in-Ok.ensures.ok (let word = c.avail_word.ensures.value in omega arith)
+use_slot-slot-requires-clause-serves g c = popped_serves _ _ c.in-Ok.slot _ c.in-Ok.ensures.meta c.in-Ok.ensures.ok (let word = c.avail_word.ensures.value in omega arith)
