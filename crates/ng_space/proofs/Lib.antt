@@ -16,3 +16,7 @@ pub mod Lived
 pub mod Annotated
 pub mod Counting
 pub mod Passed
+pub mod Frames
+pub mod Granting
+pub mod Sending
+pub mod Keeping

@@ -77,5 +77,6 @@ module _ (key : Start) (ws : List ℕ) (vs : List View) (id : ℕ) (v : View) (k
     class = class_is laid.kind;
     few = ⊎_elim (λ (r : OnRun (desk_of vs).layout.runs g). (few_pages r).1) (λ (n : InNest (desk_of vs).layout.nests g). let none = n.nested.unmapped in omega arith) laid.lies;
     meta = meta_in laid.in_area;
+    whole = laid.whole;
     inside = inside;
   }

@@ -12,3 +12,6 @@ pub mod Placed
 pub mod Masks
 pub mod Tests
 pub mod Passed
+pub mod Blocks
+pub mod Parcels
+pub mod Packed

@@ -1,5 +1,5 @@
 -- Where a slot lies, as the rule says of each slot that a seat has.
-use Rattle.std.specs.Prelude.{◌≡◌, ℕ, ◌+◌, ◌-◌, ◌*◌, ◌<◌, ◌≤◌}
+use Rattle.std.specs.Prelude.{◌≡◌, ℕ, ◌+◌, ◌-◌, ◌*◌, ◌%◌, ◌<◌, ◌≤◌}
 use Rattle.ng_class.specs.Slot.{IsGroupClass}
 use Rattle.ng_meta.specs.Place.{IsMetaPlace}
 use Rattle.ng_view.specs.Conditions.{HasFlags}
@@ -18,6 +18,7 @@ pub record LiesIn (key : Start) (p : Place) : Type 0 where
   pub class : IsGroupClass (p.group.tag - 1) p.group.last p.group.maplen
   pub few : p.group.maplen ≤ 16384
   pub meta : IsMetaPlace p.group.meta key.pages
+  pub whole : p.group.base % 16 ≡ 0
   pub inside : p.group.base + reach p.group ≤ 4096 * key.pages
 
 -- and so of each slot in a view

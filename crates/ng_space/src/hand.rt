@@ -1,5 +1,6 @@
 ghost use Rattle.std.specs.Prelude.{◌≡◌, [], ◌∷◌};
 
+use crate::block::Block;
 use crate::name::Name;
 use atomic_table::Seat;
 use ng_history::{Book, Entry};
@@ -38,6 +39,19 @@ impl<N: Name> Hand<N> {
         ensures book { self.now.view.books ≡ record { number = self.now.number; entries = self.now.entries } ∷ [] }
     {
         self.book.number()
+    }
+
+    /// Leaves a block, which stays live in the hand: only the token is spent.
+    pub fn leave(&mut self, block: Block<N>)
+        ensures { self.new ≡ self.old }
+    {
+        let Block {
+            slot,
+            at: _,
+            len: _,
+            align: _,
+        } = block;
+        slot.leave();
     }
 
     /// How many entries the hand's book has room for.

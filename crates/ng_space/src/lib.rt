@@ -2,9 +2,11 @@
 #![tactic(auto)]
 
 mod blank;
+mod block;
 mod close;
 mod excuse;
 mod fetch;
+mod giving;
 mod hand;
 mod image;
 mod load;
@@ -15,6 +17,7 @@ mod lock_notes;
 mod lock_pages;
 mod mask_step;
 mod name;
+mod parcel;
 mod passing;
 mod rule;
 mod slot;
@@ -22,6 +25,7 @@ mod space;
 mod step;
 
 pub use blank::Blank;
+pub use block::Block;
 pub use excuse::Excuse;
 pub use hand::Hand;
 pub use image::Image;
@@ -29,6 +33,7 @@ pub use lock::LockSeat;
 pub use name::Name;
 pub use ng_history::{Book, Entry, Host};
 pub use ng_view::view::Start;
+pub use parcel::Parcel;
 pub use slot::Slot;
 pub use space::Space;
 

@@ -31,6 +31,7 @@ impl<N: Name> Space<N> {
         requires below { addr < slot.now.end }
         requires header { addr + 4 ≡ slot.now.start → value % 256 ≡ 0 }
         ensures view { hand.new.view ≡ stored hand.old.view slot.now.meta slot.now.index addr value }
+        ensures slot { HasSlot hand.new slot.now }
         ensures number { hand.new.number ≡ hand.old.number }
         ensures spare { hand.new.spare ≡ hand.old.spare }
         ensures entries { hand.new.entries ≡ hand.old.entries }
@@ -119,6 +120,7 @@ impl<N: Name> Space<N> {
             let Slot {
                 meta: _,
                 index: _,
+                storage: _,
                 start: _,
                 end: _,
                 room: _,

@@ -59,6 +59,7 @@ impl<N: Name> Space<N> {
         let Slot {
             meta,
             index,
+            storage: _,
             start: _,
             end: _,
             room: _,

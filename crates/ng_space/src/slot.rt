@@ -16,6 +16,8 @@ const GROUP_HEAD: u64 = 16;
 pub struct Slot<N: Name> {
     pub(crate) meta: u64,
     pub(crate) index: u32,
+    // Where the first slot of its group begins.
+    pub(crate) storage: u64,
     pub(crate) start: u64,
     pub(crate) end: u64,
     pub(crate) room: u64,
@@ -34,13 +36,22 @@ impl<N: Name> Model for Slot<N> {
     ghost view = { λ slot. record {
       meta = slot.meta;
       index = slot.index;
+      storage = slot.storage;
       start = slot.start;
       end = slot.end;
       room = slot.room;
       hand = slot.hand;
     } };
 
-    ghost invariant = { λ slot. IsToken N.start slot.meta slot.index slot.end };
+    ghost invariant = { λ slot. IsToken N.start (record {
+      meta = slot.meta;
+      index = slot.index;
+      storage = slot.storage;
+      start = slot.start;
+      end = slot.end;
+      room = slot.room;
+      hand = slot.hand;
+    }) };
 }
 
 impl<N: Name> Slot<N> {
@@ -75,6 +86,46 @@ impl<N: Name> Slot<N> {
         self.end
     }
 
+    /// Spends the token alone.
+    pub(crate) fn leave(self) {
+        let Slot {
+            meta: _,
+            index: _,
+            storage: _,
+            start: _,
+            end: _,
+            room: _,
+            hand: _,
+            of: _,
+        } = self;
+    }
+
+    /// The same slot, in the hand of another number.
+    pub(crate) fn in_hand(self, hand: u32) -> Slot<N>
+        ensures { result ≡ record self { hand = hand } }
+    {
+        let Slot {
+            meta,
+            index,
+            storage,
+            start,
+            end,
+            room,
+            hand: _,
+            of,
+        } = self;
+        Slot {
+            meta,
+            index,
+            storage,
+            start,
+            end,
+            room,
+            hand,
+            of,
+        }
+    }
+
     /// The slot of an index, by what its meta says.
     pub(crate) fn new(meta: u64, index: u32, base: u64, flags: u32, hand: u32) -> Slot<N>
         requires place { (p : Place) × IsRead p meta index base flags × LiesIn N.start p }
@@ -89,6 +140,7 @@ impl<N: Name> Slot<N> {
         Slot {
             meta,
             index,
+            storage: base + GROUP_HEAD,
             start: slot_start(base + GROUP_HEAD, stride, index),
             end: slot_end(base + GROUP_HEAD, stride, index),
             room: room(fields.class, fields.last, fields.maplen),

@@ -6,3 +6,4 @@ pub mod Partings
 pub mod Carrying
 pub mod Ending
 pub mod Race
+pub mod Writing

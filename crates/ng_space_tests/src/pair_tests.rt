@@ -1,18 +1,25 @@
-// A group of two slots, whose life the lock's seat and a hand share.
-ghost use Rattle.std.specs.Prelude.{◌≡◌, ◌∷◌, [], Some};
+// A group of two slots, whose life the lock's seat and a hand share, with a block in one of them.
+ghost use Rattle.std.specs.Prelude.{◌≡◌, ◌≤◌, ◌∷◌, [], Some};
 ghost use Rattle.ng_view.specs.Lists.{find};
 ghost use Rattle.ng_view.specs.Steps.{in_motion};
 ghost use Rattle.ng_lock_moves.specs.Groups.{HasAllSlots};
+ghost use Rattle.ng_space.specs.Blocks.{OfSlot, Serves};
 ghost use Rattle.ng_space.specs.Tests.{HasEntered};
+ghost use Rattle.ng_space.specs.Tokens.{HasSlot};
 ghost use Rattle.ng_space_tests.specs.Trials.{AreMetasBlank, Stands, page_group, page_runs, trial_start};
 
 use crate::page::{AREA, BASE, META, build_group, end_group, make_area, start};
 use ng_meta::avail_word;
-use ng_space::{Blank, Hand, LockSeat, Name, Space};
+use ng_space::{Blank, Hand, LockSeat, Name, Slot, Space};
 use std::alloc::Global;
 use std::marker::Brand;
 use std::process::Abort;
 use std::test::Fail;
+
+/// The slot that the hand pops, and its end.
+const SLOT: u64 = 0x2800;
+
+const END: u64 = 0x2fec;
 
 #[test]
 fn a_group_lives_and_ends(rt: HostRuntime) -> Result<(), Fail> {
@@ -41,8 +48,8 @@ fn live_once<N: Name, R: Abort>(rt: &R, alloc: Global, blank: Blank) -> Result<(
     Ok(())
 }
 
-// The hand pops the slot in the avail mask, fails to push it as the first, and passes it to the lock's
-// seat, which finds both masks empty.
+// The hand pops the slot in the avail mask, has a block there, fails to push the slot as the first, and
+// passes it to the lock's seat, which finds both masks empty.
 fn pass_back<N: Name, R: Abort>(
     rt: &R,
     space: &Space<N>,
@@ -53,6 +60,7 @@ fn pass_back<N: Name, R: Abort>(
     requires stands { Stands seat.old page_runs (page_group 23 1 ∷ []) }
     requires metas { AreMetasBlank seat.old 1 }
     requires slot { find 4120 0 seat.old.held ≡ Some (in_motion (page_group 23 1) 0) }
+    requires spare { 2 ≤ hand.old.spare }
     ensures stands { Stands seat.new page_runs (page_group 23 1 ∷ []) }
     ensures metas { AreMetasBlank seat.new 1 }
     ensures slots { HasAllSlots seat.new 4120 }
@@ -62,7 +70,11 @@ fn pass_back<N: Name, R: Abort>(
         panic!(rt; "the slot isn't in the mask")
     };
     assert_eq!(rt; slot.index(), 1);
-    assert_eq!(rt; slot.start(), 0x2800);
+    assert_eq!(rt; slot.start(), SLOT);
+    assert_eq!(rt; slot.end(), END);
+    assert_eq!(rt; slot.room(), END - SLOT + 4);
+    let slot = use_slot(rt, space, hand, slot);
+    assert_eq!(rt; hand.entries().len(), 2);
     let Err((slot, found)) = space.push_step(hand, slot, 1) else {
         panic!(rt; "a mask of 0 was found to be 1")
     };
@@ -70,4 +82,32 @@ fn pass_back<N: Name, R: Abort>(
     space.slot_to_seat(hand, seat, slot);
     assert_eq!(rt; space.empty_avail(seat, META), 0);
     assert_eq!(rt; space.clear_freed(seat, META, u32::MAX), 0);
+}
+
+// A block of all but 8 bytes of the slot is given, written in and ended. Its trailer says how many are
+// left.
+fn use_slot<N: Name, R: Abort>(
+    rt: &R,
+    space: &Space<N>,
+    hand: &mut Hand<N>,
+    slot: Slot<N>,
+) -> Slot<N>
+    requires slot { HasSlot hand.old slot }
+    requires start { slot.start ≡ 10240 }
+    requires end { slot.end ≡ 12268 }
+    requires room { slot.room ≡ 2032 }
+    requires serves { OfSlot hand.old slot (Serves 2020 16) }
+    requires spare { 2 ≤ hand.old.spare }
+    ensures slot { result ≡ slot }
+    ensures has { HasSlot hand.new result }
+    ensures hand { HasEntered hand.old hand.new }
+{
+    space.store_own(hand, &slot, END - 8, 0);
+    space.store_own(hand, &slot, END - 4, 8);
+    let block = space.give(hand, slot, SLOT, 2020, 16);
+    assert_eq!(rt; block.at(), SLOT);
+    assert_eq!(rt; block.gap() - block.len(), 8);
+    space.store_in(hand, &block, SLOT, 0x1234_5678);
+    assert_eq!(rt; space.load(hand, SLOT), 0x1234_5678);
+    space.kill(hand, block)
 }

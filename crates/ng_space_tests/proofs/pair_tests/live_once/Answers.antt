@@ -1,5 +1,5 @@
 use lib.ListN.{get_or}
-use Rattle.std.proofs.Common.{List, ap, ◌∙◌, refl}
+use Rattle.std.proofs.Common.{List, ap, ◌∙◌, refl, arith}
 use Rattle.ng_space.specs.Callers.{Caller, fresh_callers}
 use Rattle.ng_space.proofs.Counting.{all_of_one}
 use Rattle.ng_space_tests.proofs.Groups.{pair_fills}
@@ -23,3 +23,8 @@ pass_back-requires-clause-slot g c = first_moves _ c.build_group.ensures
 
 pub end_group-requires-clause-stands : goal.end_group-requires-clause-stands
 end_group-requires-clause-stands g c = (23, 1, c.pass_back.ensures.stands)
+
+pub pass_back-requires-clause-spare : goal.pass_back-requires-clause-spare
+pass_back-requires-clause-spare g c =
+    let made = c.in_ok-space.ensures.hands ∙ ap (fresh_callers 1) c.requires.rooms in
+    let spare = ap (λ (h : Caller). h.spare) (c.index_mut-hand.ensures.value ∙ ap (λ (hs : List Caller). get_or hs 0 c.index_mut-hand.result.now) made) in omega arith

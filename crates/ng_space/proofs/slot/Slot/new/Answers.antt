@@ -1,4 +1,4 @@
-use Rattle.std.proofs.Common.{◌+◌, ◌*◌, ◌≤◌, ◌∙◌, subst, arith}
+use Rattle.std.proofs.Common.{ℕ, ◌+◌, ◌*◌, ◌≤◌, ◌∙◌, sym, ap, subst, arith}
 use Rattle.ng_meta.specs.Place.{IsMetaPlace}
 use Rattle.ng_space.proofs.Reading.{fields_are, group_class, stride_is, room_is, ends_below, start_is, end_is}
 use Rattle.ng_space.proofs.slot.Slot.new.Given.{Over}
@@ -29,6 +29,9 @@ invariant_of-result g c =
     let l = p.2 in let r = p.1 in record {
       place = subst (λ m. IsMetaPlace m g.N.Name.start.pages) r.meta_is l.meta;
       few = (let le = l.index in let many = l.many in let is = r.index_is in omega arith);
+      whole = (let base = l.whole in let is = r.base_is in omega arith);
+      first = (let start = c.slot_start.ensures in omega arith);
+      addressed = c.requires.pages;
       below = (let most = below g c.before.before.before in let end = c.slot_end.ensures in let least = c.stride-stride.ensures.least in omega arith);
     }
 
@@ -36,6 +39,7 @@ pub returns-clause-stands : goal.returns-clause-stands
 returns-clause-stands g c = λ p r.
     let is = fields_are p _ _ _ _ _ r c.fields_of-fields.ensures.fields in
     let s = c.stride-stride.ensures.value ∙ stride_is p _ is in record {
+      storage = ap (λ (b : ℕ). b + 16) (sym r.base_is);
       start = c.slot_start.ensures ∙ start_is p _ _ _ r.base_is r.index_is s;
       end = c.slot_end.ensures ∙ end_is p _ _ _ r.base_is r.index_is s;
       room = c.room.ensures.value ∙ room_is p _ is;
