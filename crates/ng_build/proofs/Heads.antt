@@ -14,9 +14,10 @@ use Rattle.ng_view.specs.declared.view.Group.{Group}
 use Rattle.ng_view.specs.declared.view.View.{View}
 use Rattle.ng_lock_moves.specs.Stores.{FitsMotion, Stores}
 use Rattle.ng_build.specs.Drafts.{draft_group}
-use Rattle.ng_build.specs.Nestings.{AreHeadersLow, HasCarrier, HasHead, HasHeaders, KeepsIn, OnlySlot, SeesIn, recalling}
+use Rattle.ng_build.specs.Nestings.{HasCarrier, HasHead, OnlySlot, SeesIn, recalling}
 use Rattle.ng_build.specs.declared.draft.Draft.{Draft}
 use Rattle.ng_build.specs.declared.nesting.Carrier.{Carrier}
+use Rattle.ng_build.specs.Written.{AreHeadersLow, HasHeaders, KeepsIn}
 use Rattle.ng_build.proofs.Slots.{HasSlotAt, Writes, slot_after, slot_both, slot_fits, slot_found, slot_none, slot_writes}
 
 pub carrier_at : (v : View) (c : Carrier) (g : Group) → HasCarrier v c g → HasSlotAt v c.meta c.index g.base c.stride

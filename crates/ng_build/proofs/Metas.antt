@@ -12,8 +12,9 @@ use Rattle.ng_lock_moves.specs.Groups.{BuiltMeta}
 use Rattle.ng_lock_moves.specs.Stores.{Stores}
 use Rattle.ng_lock_moves.proofs.Knowing.{sees-built}
 use Rattle.ng_build.specs.Cells.{IsIdleMeta, OnlyCells, knowing}
-use Rattle.ng_build.specs.Drafts.{IsBlankMeta, draft_group, flags_of, freed_of, with_meta}
+use Rattle.ng_build.specs.Drafts.{IsBlankMeta, draft_group}
 use Rattle.ng_build.specs.declared.draft.Draft.{Draft}
+use Rattle.ng_build.specs.Written.{flags_of, freed_of, with_meta}
 use Rattle.ng_build.proofs.Cells.{builds_meta, idle_meta_only, only_both, only_built, only_none, sees_else}
 
 pub meta_whole : (meta pages : ℕ) → IsMetaPlace meta pages → meta % 4 ≡ 0

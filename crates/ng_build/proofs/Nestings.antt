@@ -15,10 +15,11 @@ use Rattle.ng_meta.specs.Place.{IsMetaPlace}
 use Rattle.ng_lock_moves.specs.Groups.{BuildsNested, BuiltMeta, BuiltNested, IsLowHeader, Publishes, slot_published}
 use Rattle.ng_lock_moves.proofs.Knowing.{off_else}
 use Rattle.ng_build.specs.Cells.{IsIdleMeta, knowing}
-use Rattle.ng_build.specs.Drafts.{IsBlankMeta, IsCounted, avail_of, draft_group, freed_of, with_meta}
-use Rattle.ng_build.specs.Nestings.{AreHeadersLow, HasCarrier, KeepsIn, OnlySlot, PublishesSlot, SeesIn, recalling, with_nested}
+use Rattle.ng_build.specs.Drafts.{IsBlankMeta, IsCounted, draft_group}
+use Rattle.ng_build.specs.Nestings.{HasCarrier, OnlySlot, PublishesSlot, SeesIn, recalling, with_nested}
 use Rattle.ng_build.specs.declared.draft.Draft.{Draft}
 use Rattle.ng_build.specs.declared.nesting.Carrier.{Carrier}
+use Rattle.ng_build.specs.Written.{AreHeadersLow, KeepsIn, avail_of, freed_of, with_meta}
 use Rattle.ng_build.proofs.Cells.{by_cells}
 use Rattle.ng_build.proofs.Masks.{are_masks, is_bare, moves_first}
 use Rattle.ng_build.proofs.Metas.{built_meta, meta_kept, meta_view, meta_whole, several_plain}

@@ -15,9 +15,10 @@ use Rattle.ng_lock_moves.specs.Notes.{IsClearedRun, plain_run}
 use Rattle.ng_lock_moves.specs.Stores.{Stores}
 use Rattle.ng_lock_moves.proofs.Knowing.{off_else, sees-built}
 use Rattle.ng_build.specs.Cells.{IsIdleMeta, IsIdleRun, OnlyCells, knowing}
-use Rattle.ng_build.specs.Drafts.{FitsRun, IsBlankMeta, IsCounted, avail_of, draft_group, freed_of, with_meta}
+use Rattle.ng_build.specs.Drafts.{FitsRun, IsBlankMeta, IsCounted, draft_group}
 use Rattle.ng_build.specs.Runs.{IsMetaOutside, PublishesRun, with_group}
 use Rattle.ng_build.specs.declared.draft.Draft.{Draft}
+use Rattle.ng_build.specs.Written.{avail_of, freed_of, with_meta}
 use Rattle.ng_build.proofs.Areas.{run_cell, run_head}
 use Rattle.ng_build.proofs.Cells.{by_cells, idle_meta_only, idle_run_only, only_both, only_built, sees_else}
 use Rattle.ng_build.proofs.Masks.{are_masks, is_bare, moves_first}

@@ -1,8 +1,6 @@
 -- Groups that are to be built.
-use Rattle.std.specs.Prelude.{◌⊎◌, ℕ, ◌+◌, ◌-◌, ◌*◌, ◌<◌, ◌≤◌}
-use Rattle.ng_class.specs.Mask.{all_bits_of}
+use Rattle.std.specs.Prelude.{◌⊎◌, ℕ, ◌+◌, ◌*◌, ◌<◌, ◌≤◌}
 use Rattle.ng_view.specs.Layouts.{IsLoneKind, IsSmallKind}
-use Rattle.ng_view.specs.LockSteps.{built}
 use Rattle.ng_view.specs.Places.{reach, size_of}
 use Rattle.ng_view.specs.declared.view.Group.{Group}
 use Rattle.ng_view.specs.declared.view.View.{View}
@@ -19,18 +17,6 @@ draft_group d = record {
   maplen = d.maplen;
 }
 
--- the bits of the slots 1 to active
-abbrev pub avail_of : ℕ → ℕ
-avail_of active = all_bits_of active - 1
-
--- the bits of the slots behind them, to the last
-abbrev pub freed_of : ℕ → ℕ → ℕ
-freed_of active last = all_bits_of last - all_bits_of active
-
--- the low cell of a draft's flags: its last index, that it may be freed, its class and its pages
-abbrev pub flags_of : Draft → ℕ
-flags_of d = d.last + 32 + 64 * d.class + 4096 * d.maplen
-
 -- the meta has no live group, and its ten cells are known to be 0
 pub record IsBlankMeta (v : View) (meta : ℕ) : Type 0 where
   pub idle : IsIdleMeta v meta
@@ -40,13 +26,6 @@ pub record IsBlankMeta (v : View) (meta : ℕ) : Type 0 where
 pub record IsCounted (d : Draft) : Type 0 where
   pub active : d.active ≤ d.last
   pub last : d.last < 32
-
--- the view once the cells of a draft's meta are stored
-abbrev pub with_meta : View → Draft → View
-with_meta v d =
-    let placed : View = built v (d.meta + 16) d.base in
-    let masked : View = built placed (d.meta + 28) (freed_of d.active d.last) in
-    built masked (d.meta + 32) (flags_of d)
 
 -- a group of a class below 48 that is too large to be nested, and its pages hold its slots
 pub record IsLarge (g : Group) : Type 0 where

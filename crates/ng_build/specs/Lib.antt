@@ -3,3 +3,4 @@ pub mod Drafts
 pub mod Areas
 pub mod Runs
 pub mod Nestings
+pub mod Written

@@ -1,9 +1,9 @@
 -- A group that comes to live in a slot of another.
-use Rattle.std.specs.Prelude.{◌≡◌, ◌⊎◌, ℕ, ◌+◌, ◌*◌, ◌<◌, ◌≤◌, eqb, cond, List, ◌∷◌, Some}
+use Rattle.std.specs.Prelude.{◌≡◌, ℕ, ◌+◌, ◌<◌, ◌≤◌, eqb, cond, List, ◌∷◌, Some}
 use Rattle.ng_view.specs.Blocks.{Knows}
 use Rattle.ng_view.specs.Layouts.{IsNested}
 use Rattle.ng_view.specs.Lists.{edit, find, without}
-use Rattle.ng_view.specs.Places.{header, reach, slot_start, stride}
+use Rattle.ng_view.specs.Places.{reach, slot_start, stride}
 use Rattle.ng_view.specs.Steps.{in_motion}
 use Rattle.ng_view.specs.declared.view.Group.{Group}
 use Rattle.ng_view.specs.declared.view.Held.{Held}
@@ -44,21 +44,6 @@ pub record HasHead (v : View) (meta index base : ℕ) : Type 0 where
   pub found : find meta index v.held ≡ Some slot
   pub begins : base ≡ slot_start slot.place
   pub room : 16 ≤ stride slot.place.group
-
--- so many header cells of a group's slots, from the first on, are the carrier's own, whose stride is room;
--- the one behind the last slot isn't where the slots reach the carrier's end
-pub record HasHeaders (step last room count : ℕ) : Type 0 where
-  pub own : (i : ℕ) → i < count → 16 + step * i < room
-  pub all : (i : ℕ) → i ≤ last + 1 → (i < count) ⊎ (16 + step * i ≡ room)
-
--- the header cells of a group are known to be 0, but for the one at the carrier's end
-abbrev pub AreHeadersLow : View → ℕ → ℕ → Group → ℕ → Type 0
-AreHeadersLow v meta index g room = (i : ℕ) → i ≤ g.last + 1
-    → SeesIn v meta index (header g i) 0 ⊎ (16 + stride g * i ≡ room)
-
--- what v knows of the slot's cells below an address, w knows too
-abbrev pub KeepsIn : View → View → ℕ → ℕ → ℕ → Type 0
-KeepsIn v w meta index to = (a x : ℕ) → a < to → SeesIn v meta index a x → SeesIn w meta index a x
 
 -- the view with a live group that the slot h of that meta and index carries, which is out of motion: the
 -- group's own slot 0 is in motion, it is listed, and where no other slot is in use, its avail mask is

@@ -9,7 +9,7 @@ use ng_space::{LockSeat, Name, Space};
 /// How many metas an area has.
 const METAS: u32 = 101;
 
-// Of an area's head: the link, and the number of metas. The check stands at its address.
+// Of an area: where the high half of its check, its link and the number of its metas stand.
 const CHECK_HIGH: u64 = 4;
 
 const LINK: u64 = 8;

@@ -1,7 +1,8 @@
 ghost use Rattle.std.specs.Prelude.{◌≡◌, ◌+◌, ◌*◌, ◌%◌, ◌^◌, ◌<◌, ◌≤◌};
 ghost use Rattle.ng_meta.specs.Place.{IsMetaPlace};
 ghost use Rattle.ng_build.specs.Drafts.{IsBlankMeta, IsCounted, draft_group};
-ghost use Rattle.ng_build.specs.Nestings.{AreHeadersLow, HasCarrier, HasHead, HasHeaders, KeepsIn, OnlySlot, PublishesSlot, SeesIn};
+ghost use Rattle.ng_build.specs.Nestings.{HasCarrier, HasHead, OnlySlot, PublishesSlot, SeesIn};
+ghost use Rattle.ng_build.specs.Written.{AreHeadersLow, HasHeaders, KeepsIn};
 
 use crate::draft::{Draft, write_meta};
 use crate::run::ACTIVE;
