@@ -1,5 +1,5 @@
 -- What steps on the masks of one meta change of the view.
-use Rattle.std.proofs.Common.{◌≡◌, ◌≢◌, ℕ, ◌+◌, ◌<◌, ◌≤◌, eqb, ne_eqb, cond, Bool, true, false, List, [], ◌∷◌, ◌++◌, refl, sym, ap, ◌∙◌, subst, ⊎_elim, inl, inr, arith}
+use Rattle.std.proofs.Common.{◌≡◌, ◌≢◌, ℕ, ◌+◌, ◌<◌, ◌≤◌, eqb, cond, Bool, true, false, List, [], ◌∷◌, ◌++◌, refl, sym, ap, ◌∙◌, subst, ⊎_elim, inl, inr, arith}
 use Rattle.std.specs.Prelude.{◌&&◌, bit_and}
 use Rattle.std.specs.Int.{bit_at, bit_not, w64}
 use Rattle.std.proofs.lemmas.Bool.{cases_lt, eqb-true}
@@ -7,7 +7,6 @@ use Rattle.std.proofs.lemmas.List.{append_assoc, append-nil}
 use Rattle.ng_class.specs.Mask.{all_bits_of}
 use Rattle.ng_view.specs.Lists.{Among}
 use Rattle.ng_view.specs.LockSteps.{bits_of, let_go, others, seen_but}
-use Rattle.ng_view.specs.declared.view.Held.{Held}
 use Rattle.ng_view.specs.declared.view.View.{View}
 use Rattle.ng_lock_moves.specs.Fetches.{HasGroup, PushesFreed, StocksAvail}
 use Rattle.ng_mask.specs.Fetches.{Stocks, Takes}

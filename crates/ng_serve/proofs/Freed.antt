@@ -1,6 +1,6 @@
 -- Freed slots that were taken: one stays in the seat, or none.
-use Rattle.std.proofs.Common.{◌≡◌, ◌≢◌, ◌⊎◌, ℕ, ◌+◌, ◌-◌, ◌*◌, ◌/◌, ◌%◌, ◌^◌, ◌<◌, ◌≤◌, List, [], ◌∷◌, ◌++◌, map, refl, sym, ap, ◌∙◌, subst, ⊎_elim, inl, inr, arith}
-use Rattle.std.specs.Prelude.{bit_and, Option, Some, None, IsNone, IsSome, IfSome}
+use Rattle.std.proofs.Common.{◌≡◌, ℕ, ◌+◌, ◌/◌, ◌%◌, ◌^◌, ◌<◌, ◌≤◌, List, ◌++◌, map, refl, sym, ap, ◌∙◌, subst, ⊎_elim, arith}
+use Rattle.std.specs.Prelude.{Option, Some, None, IsNone, IsSome, IfSome}
 use Rattle.std.specs.Int.{bit_at}
 use Rattle.std.proofs.Math.Nat.{mod-le, mod-lt}
 use Rattle.std.proofs.lemmas.Bool.{cases_lt}
@@ -9,14 +9,12 @@ use Rattle.std.proofs.lemmas.Nat.Bits.{bit_at-zero, bit_at_above, bit_at_cat_low
 use Rattle.ng_class.specs.Mask.{IsLowestBit}
 use Rattle.ng_view.specs.Lists.{Among}
 use Rattle.ng_view.specs.LockSteps.{AreOut, bits_of, let_go}
-use Rattle.ng_view.specs.Slots.{IsPlain}
 use Rattle.ng_view.specs.Steps.{in_motion}
 use Rattle.ng_view.specs.declared.view.Group.{Group}
-use Rattle.ng_view.specs.declared.view.Held.{Held}
 use Rattle.ng_view.specs.declared.view.View.{View}
-use Rattle.ng_lock_moves.specs.Fetches.{HasGroup, MayPutBack}
+use Rattle.ng_lock_moves.specs.Fetches.{HasGroup}
 use Rattle.ng_lock_moves.specs.Masks.{IsServing, TellsFreed}
-use Rattle.ng_mask.specs.Fetches.{MayStock, OfGroup, Stocks, Takes, slots_of}
+use Rattle.ng_mask.specs.Fetches.{MayStock, Stocks, Takes, slots_of}
 use Rattle.ng_mask.proofs.Bits.{rest_of, rest_splits}
 use Rattle.ng_mask.proofs.Motion.{SplitsInto, bits_of-pow, others_are_left, part_is_out}
 use Rattle.ng_serve.specs.Reads.{Reads}

@@ -1,5 +1,5 @@
 -- Slots of the seat that go into the masks of their group.
-use Rattle.std.proofs.Common.{◌≡◌, ℕ, ◌+◌, ◌*◌, ◌%◌, ◌^◌, ◌<◌, ◌≤◌, List, [], ◌∷◌, ◌++◌, refl, sym, ap, ◌∙◌, subst, ⊎_elim, arith}
+use Rattle.std.proofs.Common.{◌≡◌, ℕ, ◌+◌, ◌*◌, ◌%◌, ◌^◌, ◌<◌, ◌≤◌, List, ◌++◌, refl, sym, ap, ◌∙◌, subst, ⊎_elim, arith}
 use Rattle.std.proofs.lemmas.Bool.{cases_lt}
 use Rattle.std.proofs.lemmas.Nat.{one_shl, pow_pos}
 use Rattle.std.proofs.lemmas.Nat.Bits.{bit_at-zero}
@@ -9,7 +9,7 @@ use Rattle.ng_view.specs.LockSteps.{AreOut, bits_of, let_go}
 use Rattle.ng_view.specs.declared.view.Group.{Group}
 use Rattle.ng_view.specs.declared.view.Held.{Held}
 use Rattle.ng_view.specs.declared.view.View.{View}
-use Rattle.ng_lock_moves.specs.Fetches.{HasGroup, MayPutBack, PushesFreed}
+use Rattle.ng_lock_moves.specs.Fetches.{MayPutBack, PushesFreed}
 use Rattle.ng_mask.specs.Fetches.{MayStock, Stocks, slots_of}
 use Rattle.ng_mask.proofs.Motion.{SplitsInto, bits_of-pow, others_are_left, part_is_out}
 use Rattle.ng_serve.specs.Takes.{ChangesMasks, HasBare, HasCaptured, IsServed, PutsBits, PutsCaptured, PutsSlot}

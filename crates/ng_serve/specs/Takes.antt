@@ -1,5 +1,5 @@
 -- Slots of a group that come out of its freed mask, and go into its masks again.
-use Rattle.std.specs.Prelude.{◌≡◌, ◌≢◌, ℕ, ◌^◌, ◌<◌, ◌≤◌, List, ◌∷◌, ◌++◌, Some, None}
+use Rattle.std.specs.Prelude.{◌≡◌, ◌≢◌, ℕ, ◌<◌, ◌≤◌, List, ◌∷◌, ◌++◌, Some, None}
 use Rattle.ng_view.specs.Lists.{Among, find, without}
 use Rattle.ng_view.specs.LockSteps.{bits_of, let_go}
 use Rattle.ng_view.specs.Slots.{IsPlain}
