@@ -21,7 +21,7 @@ use Rattle.ng_serve.specs.Reads.{Reads}
 use Rattle.ng_serve.specs.Takes.{ChangesMasks, HasFreed, StocksFreed, TakesFreed}
 use Rattle.ng_serve.proofs.Fields.{lives_then}
 use Rattle.ng_serve.proofs.Readings.{reads_then}
-use Rattle.ng_serve.proofs.Changes.{changes_groups, changes_listed, changes_reads, changes_stocked, changes_taken, changes_then, stocked_held}
+use Rattle.ng_serve.proofs.Changes.{all_of, changes_groups, changes_listed, changes_reads, changes_stocked, changes_taken, changes_then, stocked_held}
 
 -- ---- the low bits of a mask
 bit_at_mod : (n k i : ℕ) → i < k → bit_at n i ≡ bit_at (n % 2 ^ k) i
@@ -120,19 +120,13 @@ module _ (v u : View) (meta upto taken : ℕ) (has : HasGroup v meta) (takes : T
           }
 
   -- ---- none does
-  all_of : SplitsInto taken taken 0
-  all_of i lt = sum (bit_at taken i) (bit_at 0 i) (bit_at-zero i)
-    where
-      sum : (a b : ℕ) → b ≡ 0 → a ≡ a + b
-      sum a b none = omega arith
-
   pub may_stock_all : Among meta v.desk.zero_avail → MayStock u meta taken
-  may_stock_all bare = may_stock taken 0 (λ more. more) all_of bare
+  may_stock_all bare = may_stock taken 0 (λ more. more) (all_of taken) bare
 
   pub stocks_all : (w : View) → (taken ≡ 0 → w ≡ u) → (0 < taken → Stocks u meta taken w) → StocksFreed v meta w
   stocks_all w none some = record {
-    changes = then_changes w taken 0 all_of none some;
-    held = then_held w taken 0 all_of none some has.group has.there has.of_meta;
+    changes = then_changes w taken 0 (all_of taken) none some;
+    held = then_held w taken 0 (all_of taken) none some has.group has.there has.of_meta;
   }
 
 -- ---- the lowest bit of a mask that isn't 0

@@ -47,8 +47,8 @@ pub record PutsBits (v : View) (meta bits : ℕ) (w : View) : Type 0 where
   pub avail : w.desk.zero_avail ≡ v.desk.zero_avail
   pub held : w.held ≡ let_go meta (bits_of bits) v.held
 
--- a live group of that meta may have slots in its masks: its slots have the whole size of a class below 48, and it is
--- listed
+-- a live group of that meta may have slots in its masks: its slots have the whole size of a class
+-- below 48, and it is listed
 pub record IsServed (v : View) (meta : ℕ) : Type 0 where
   pub group : Group
   pub there : Among group v.desk.groups
