@@ -1,23 +1,21 @@
 -- What was found of a ring so far, and of the whole of it.
-use Rattle.std.proofs.Common.{◌≡◌, ◌≢◌, ◌⊎◌, ℕ, ◌+◌, ◌<◌, List, [], ◌∷◌, ◌++◌, length, get_or, All, Contains, refl, sym, ap, ◌∙◌, subst, ⊎_elim, inl, inr, arith}
-use Rattle.std.specs.Prelude.{Option, Some, None, IfSome, IfNone}
+use Rattle.std.proofs.Common.{◌≡◌, ◌≢◌, ◌⊎◌, ℕ, ◌<◌, List, [], ◌++◌, length, Contains, sym, ap, ◌∙◌, subst, ⊎_elim, arith}
+use Rattle.std.specs.Prelude.{Option, Some, None, IfSome}
 use Rattle.std.proofs.lemmas.List.{append-nil}
-use Rattle.ng_meta.specs.Place.{IsMetaPlace}
 use Rattle.ng_view.specs.Lists.{Among}
 use Rattle.ng_view.specs.declared.view.View.{View}
-use Rattle.ng_lists.specs.Rings.{IsListed, RingTable, after, before, next_in, ring_of, rotated}
+use Rattle.ng_lists.specs.Rings.{after, before, next_in, rotated}
 use Rattle.ng_lists.proofs.DistinctLemmas.{IsDistinct}
-use Rattle.ng_lists.proofs.MemberLemmas.{Contains-next_in, Contains-rotated, listed_in, rotated_has}
+use Rattle.ng_lists.proofs.MemberLemmas.{Contains-next_in, rotated_has}
 use Rattle.ng_lists.proofs.TableLemmas.{before-split}
 use Rattle.ng_lock_moves.specs.Fetches.{HasGroup}
-use Rattle.ng_mask.specs.Fetches.{OfGroup}
-use Rattle.ng_serve.specs.Choices.{FindsAllBare, FindsBare, IsChoice, RingEmpty}
-use Rattle.ng_serve.specs.Groups.{AreInSpace, LivesIn, RingLives}
+use Rattle.ng_serve.specs.Choices.{FindsAllBare, FindsBare, IsChoice}
+use Rattle.ng_serve.specs.Groups.{RingLives}
 use Rattle.ng_serve.specs.Reads.{IsBareIn, Notes, NotesBy}
 use Rattle.ng_serve.specs.declared.choosing.Choice.{Choice}
 use Rattle.ng_serve.specs.declared.choosing.Offer.{Offer}
 use Rattle.ng_serve.proofs.Readings.{bare_left, bare_right, notes_groups, notes_then}
-use Rattle.ng_serve.proofs.Walks.{GoesOn, IsRound, Step, next_rotated, rotated_distinct, step_of}
+use Rattle.ng_serve.proofs.Walks.{Step, next_rotated, rotated_distinct, step_of}
 
 -- a choice from the ring
 pub record IsFrom (ring : List ℕ) (v : View) (choice : Choice) : Type 0 where

@@ -1,15 +1,16 @@
 -- What steps on the masks of one meta change of the view.
-use Rattle.std.proofs.Common.{◌≡◌, ◌≢◌, ℕ, ◌+◌, ◌<◌, ◌≤◌, eqb, ne_eqb, cond, Bool, true, false, List, [], ◌∷◌, ◌++◌, refl, sym, ap, ◌∙◌, subst, ⊎_elim, inl, inr, arith}
+use Rattle.std.proofs.Common.{◌≡◌, ◌≢◌, ℕ, ◌+◌, ◌<◌, ◌≤◌, eqb, cond, Bool, true, false, List, [], ◌∷◌, ◌++◌, refl, sym, ap, ◌∙◌, subst, ⊎_elim, inl, inr, arith}
 use Rattle.std.specs.Prelude.{◌&&◌, bit_and}
 use Rattle.std.specs.Int.{bit_at, bit_not, w64}
 use Rattle.std.proofs.lemmas.Bool.{cases_lt, eqb-true}
+use Rattle.std.proofs.lemmas.Nat.Bits.{bit_at-zero}
 use Rattle.std.proofs.lemmas.List.{append_assoc, append-nil}
 use Rattle.ng_class.specs.Mask.{all_bits_of}
 use Rattle.ng_view.specs.Lists.{Among}
 use Rattle.ng_view.specs.LockSteps.{bits_of, let_go, others, seen_but}
-use Rattle.ng_view.specs.declared.view.Held.{Held}
 use Rattle.ng_view.specs.declared.view.View.{View}
 use Rattle.ng_lock_moves.specs.Fetches.{HasGroup, PushesFreed, StocksAvail}
+use Rattle.ng_mask.proofs.Motion.{SplitsInto}
 use Rattle.ng_mask.specs.Fetches.{Stocks, Takes}
 use Rattle.ng_serve.specs.Reads.{Reads}
 use Rattle.ng_serve.specs.Takes.{ChangesMasks, with_masks}
@@ -36,6 +37,13 @@ seen_keep m bits k i (x ∷ xs) ne s = by_test (seen_keep m bits k i xs ne) (eqb
     by_test ih true false is (inr s) = inr (ih s)
     by_test ih false c is (inl e) = inl e
     by_test ih false c is (inr s) = inr (ih s)
+
+-- ---- the whole of a mask
+pub all_of : (bits : ℕ) → SplitsInto bits bits 0
+all_of bits i lt = sum (bit_at bits i) (bit_at 0 i) (bit_at-zero i)
+  where
+    sum : (a b : ℕ) → b ≡ 0 → a ≡ a + b
+    sum a b none = omega arith
 
 -- ---- steps one after the other
 pub changes_reads : (v w : View) (meta : ℕ) → Reads v w → ChangesMasks v meta w

@@ -1,5 +1,5 @@
 -- What the words of a live group's meta say of it.
-use Rattle.std.proofs.Common.{◌≡◌, ◌≢◌, ℕ, ◌+◌, ◌*◌, ◌/◌, ◌%◌, ◌^◌, ◌<◌, ◌≤◌, refl, sym, ap, ◌∙◌, subst, arith}
+use Rattle.std.proofs.Common.{◌≡◌, ◌≢◌, ℕ, ◌+◌, ◌*◌, ◌%◌, ◌<◌, ◌≤◌, sym, ap, ◌∙◌, subst, arith}
 use Rattle.ng_meta.specs.Cells.{high_half, joined, low_half}
 use Rattle.ng_meta.specs.Flags.{fields_in}
 use Rattle.ng_meta.specs.declared.flags.Fields.{Fields}
@@ -12,7 +12,7 @@ use Rattle.ng_lock_moves.specs.Fetches.{HasGroup}
 use Rattle.ng_lock_moves.specs.Loads.{IsField, Loads, TellsGroups}
 use Rattle.ng_lock_moves.specs.Stores.{IsActiveIndex, Stores}
 use Rattle.ng_mask.specs.Fetches.{OfGroup}
-use Rattle.ng_serve.specs.Groups.{AreInSpace, Describes, IsInSpace, IsRaisedTo, ReadsFields, ReadsIndex}
+use Rattle.ng_serve.specs.Groups.{AreInSpace, Describes, IsInSpace, ReadsFields, ReadsIndex}
 use Rattle.ng_serve.specs.Reads.{Reads}
 use Rattle.ng_serve.specs.declared.group.LiveGroup.{LiveGroup}
 use Rattle.ng_serve.proofs.Readings.{reads_groups, reads_one, reads_then}

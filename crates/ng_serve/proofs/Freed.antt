@@ -1,6 +1,6 @@
 -- Freed slots that were taken: one stays in the seat, or none.
-use Rattle.std.proofs.Common.{◌≡◌, ◌≢◌, ◌⊎◌, ℕ, ◌+◌, ◌-◌, ◌*◌, ◌/◌, ◌%◌, ◌^◌, ◌<◌, ◌≤◌, List, [], ◌∷◌, ◌++◌, map, refl, sym, ap, ◌∙◌, subst, ⊎_elim, inl, inr, arith}
-use Rattle.std.specs.Prelude.{bit_and, Option, Some, None, IsNone, IsSome, IfSome}
+use Rattle.std.proofs.Common.{◌≡◌, ℕ, ◌+◌, ◌/◌, ◌%◌, ◌^◌, ◌<◌, ◌≤◌, List, ◌++◌, map, refl, sym, ap, ◌∙◌, subst, ⊎_elim, arith}
+use Rattle.std.specs.Prelude.{Option, Some, None, IsNone, IsSome, IfSome}
 use Rattle.std.specs.Int.{bit_at}
 use Rattle.std.proofs.Math.Nat.{mod-le, mod-lt}
 use Rattle.std.proofs.lemmas.Bool.{cases_lt}
@@ -9,21 +9,19 @@ use Rattle.std.proofs.lemmas.Nat.Bits.{bit_at-zero, bit_at_above, bit_at_cat_low
 use Rattle.ng_class.specs.Mask.{IsLowestBit}
 use Rattle.ng_view.specs.Lists.{Among}
 use Rattle.ng_view.specs.LockSteps.{AreOut, bits_of, let_go}
-use Rattle.ng_view.specs.Slots.{IsPlain}
 use Rattle.ng_view.specs.Steps.{in_motion}
 use Rattle.ng_view.specs.declared.view.Group.{Group}
-use Rattle.ng_view.specs.declared.view.Held.{Held}
 use Rattle.ng_view.specs.declared.view.View.{View}
-use Rattle.ng_lock_moves.specs.Fetches.{HasGroup, MayPutBack}
+use Rattle.ng_lock_moves.specs.Fetches.{HasGroup}
 use Rattle.ng_lock_moves.specs.Masks.{IsServing, TellsFreed}
-use Rattle.ng_mask.specs.Fetches.{MayStock, OfGroup, Stocks, Takes, slots_of}
+use Rattle.ng_mask.specs.Fetches.{MayStock, Stocks, Takes, slots_of}
 use Rattle.ng_mask.proofs.Bits.{rest_of, rest_splits}
 use Rattle.ng_mask.proofs.Motion.{SplitsInto, bits_of-pow, others_are_left, part_is_out}
 use Rattle.ng_serve.specs.Reads.{Reads}
 use Rattle.ng_serve.specs.Takes.{ChangesMasks, HasFreed, StocksFreed, TakesFreed}
 use Rattle.ng_serve.proofs.Fields.{lives_then}
 use Rattle.ng_serve.proofs.Readings.{reads_then}
-use Rattle.ng_serve.proofs.Changes.{changes_groups, changes_listed, changes_reads, changes_stocked, changes_taken, changes_then, stocked_held}
+use Rattle.ng_serve.proofs.Changes.{all_of, changes_groups, changes_listed, changes_reads, changes_stocked, changes_taken, changes_then, stocked_held}
 
 -- ---- the low bits of a mask
 bit_at_mod : (n k i : ℕ) → i < k → bit_at n i ≡ bit_at (n % 2 ^ k) i
@@ -122,19 +120,13 @@ module _ (v u : View) (meta upto taken : ℕ) (has : HasGroup v meta) (takes : T
           }
 
   -- ---- none does
-  all_of : SplitsInto taken taken 0
-  all_of i lt = sum (bit_at taken i) (bit_at 0 i) (bit_at-zero i)
-    where
-      sum : (a b : ℕ) → b ≡ 0 → a ≡ a + b
-      sum a b none = omega arith
-
   pub may_stock_all : Among meta v.desk.zero_avail → MayStock u meta taken
-  may_stock_all bare = may_stock taken 0 (λ more. more) all_of bare
+  may_stock_all bare = may_stock taken 0 (λ more. more) (all_of taken) bare
 
   pub stocks_all : (w : View) → (taken ≡ 0 → w ≡ u) → (0 < taken → Stocks u meta taken w) → StocksFreed v meta w
   stocks_all w none some = record {
-    changes = then_changes w taken 0 all_of none some;
-    held = then_held w taken 0 all_of none some has.group has.there has.of_meta;
+    changes = then_changes w taken 0 (all_of taken) none some;
+    held = then_held w taken 0 (all_of taken) none some has.group has.there has.of_meta;
   }
 
 -- ---- the lowest bit of a mask that isn't 0

@@ -1,5 +1,5 @@
 -- What a look at one candidate finds.
-use Rattle.std.proofs.Common.{◌≡◌, ◌≢◌, ℕ, zero, suc, ◌+◌, ◌%◌, ◌^◌, ◌<◌, ◌≤◌, eqb, cond, Bool, true, false, List, [], ◌∷◌, ◌++◌, map, refl, sym, ap, ◌∙◌, subst, ⊎_elim, inl, inr, arith}
+use Rattle.std.proofs.Common.{◌≡◌, ◌≢◌, ℕ, zero, suc, ◌+◌, ◌^◌, ◌<◌, eqb, cond, Bool, true, false, List, [], ◌∷◌, ◌++◌, map, refl, sym, ap, ◌∙◌, subst, ⊎_elim, inl, inr, arith}
 use Rattle.std.specs.Int.{bit_at}
 use Rattle.std.proofs.lemmas.Bool.{cases_eq, eq-eqb}
 use Rattle.ng_class.specs.Mask.{IsLowestBit}
@@ -12,7 +12,7 @@ use Rattle.ng_lock_moves.specs.Fetches.{HasGroup}
 use Rattle.ng_lock_moves.specs.Loads.{Loads, TellsGroups, freed_read}
 use Rattle.ng_serve.specs.Choices.{FindsBare, IsChoice, ReadsMasks}
 use Rattle.ng_serve.specs.Groups.{AreInSpace}
-use Rattle.ng_serve.specs.Reads.{IsBareIn, Notes, NotesBy, Reads}
+use Rattle.ng_serve.specs.Reads.{Notes, NotesBy, Reads}
 use Rattle.ng_serve.proofs.Readings.{among_left, notes_avail, notes_freed, notes_groups, notes_reads, notes_then}
 
 -- ---- a bit of a mask is among those that are noted

@@ -1,19 +1,17 @@
 -- Slots of the seat that go into the masks of their group.
-use Rattle.std.proofs.Common.{◌≡◌, ℕ, ◌+◌, ◌*◌, ◌%◌, ◌^◌, ◌<◌, ◌≤◌, List, [], ◌∷◌, ◌++◌, refl, sym, ap, ◌∙◌, subst, ⊎_elim, arith}
+use Rattle.std.proofs.Common.{◌≡◌, ℕ, ◌*◌, ◌%◌, ◌^◌, ◌<◌, ◌≤◌, List, ◌++◌, refl, sym, ap, ◌∙◌, subst, ⊎_elim, arith}
 use Rattle.std.proofs.lemmas.Bool.{cases_lt}
 use Rattle.std.proofs.lemmas.Nat.{one_shl, pow_pos}
-use Rattle.std.proofs.lemmas.Nat.Bits.{bit_at-zero}
-use Rattle.std.specs.Int.{bit_at}
 use Rattle.ng_view.specs.Lists.{Among, without}
 use Rattle.ng_view.specs.LockSteps.{AreOut, bits_of, let_go}
 use Rattle.ng_view.specs.declared.view.Group.{Group}
 use Rattle.ng_view.specs.declared.view.Held.{Held}
 use Rattle.ng_view.specs.declared.view.View.{View}
-use Rattle.ng_lock_moves.specs.Fetches.{HasGroup, MayPutBack, PushesFreed}
+use Rattle.ng_lock_moves.specs.Fetches.{MayPutBack, PushesFreed}
 use Rattle.ng_mask.specs.Fetches.{MayStock, Stocks, slots_of}
-use Rattle.ng_mask.proofs.Motion.{SplitsInto, bits_of-pow, others_are_left, part_is_out}
+use Rattle.ng_mask.proofs.Motion.{bits_of-pow, others_are_left, part_is_out}
 use Rattle.ng_serve.specs.Takes.{ChangesMasks, HasBare, HasCaptured, IsServed, PutsBits, PutsCaptured, PutsSlot}
-use Rattle.ng_serve.proofs.Changes.{changes_groups, changes_listed, changes_none, changes_pushed, changes_stocked, changes_then, stocked_held}
+use Rattle.ng_serve.proofs.Changes.{all_of, changes_groups, changes_listed, changes_none, changes_pushed, changes_stocked, changes_then, stocked_held}
 
 -- ---- bits are set, or there are none
 pub puts_bits : (v w : View) (meta bits n : ℕ) → PushesFreed v meta bits n w → PutsBits v meta bits w
@@ -56,12 +54,6 @@ puts_slot v w meta index slot puts = record {
 }
 
 -- ---- all slots of a mask, in front of others
-all_of : (bits : ℕ) → SplitsInto bits bits 0
-all_of bits i lt = sum (bit_at bits i) (bit_at 0 i) (bit_at-zero i)
-  where
-    sum : (a b : ℕ) → b ≡ 0 → a ≡ a + b
-    sum a b none = omega arith
-
 front_out : (g : Group) (meta bits : ℕ) (hs : List Held) → g.meta ≡ meta → AreOut meta (bits_of bits) (slots_of g bits ++ hs)
 front_out g meta bits hs e = subst (λ m. AreOut m (bits_of bits) (slots_of g bits ++ hs)) e (part_is_out g hs bits bits 0 (all_of bits))
 

@@ -1,12 +1,12 @@
 -- Once round a ring, from one of its metas on.
-use Rattle.std.proofs.Common.{◌≡◌, ◌≢◌, ◌⊎◌, ℕ, suc, ◌+◌, ◌<◌, List, [], ◌∷◌, ◌++◌, length, get_or, Contains, refl, sym, ap, ◌∙◌, subst, ⊎_elim, inl, inr, arith}
+use Rattle.std.proofs.Common.{◌≡◌, ◌≢◌, ◌⊎◌, ℕ, ◌<◌, List, [], ◌∷◌, ◌++◌, length, get_or, Contains, refl, sym, ap, ◌∙◌, subst, ⊎_elim, inl, inr, arith}
 use Rattle.std.proofs.lemmas.List.{append_assoc, append-nil, get_or_append_left, length-append}
-use Rattle.std.proofs.lemmas.List.Elements.{Contains-append_cases, Contains-append_left, Contains-append_right, Contains-get_or, Contains-push_cases}
+use Rattle.std.proofs.lemmas.List.Elements.{Contains-append_cases, Contains-append_right, Contains-get_or, Contains-push_cases}
 use Rattle.ng_lists.specs.Rings.{after, before, next_in, rotated}
 use Rattle.ng_lists.proofs.ChainLemmas.{Contains-head}
 use Rattle.ng_lists.proofs.CircleLemmas.{only}
-use Rattle.ng_lists.proofs.DistinctLemmas.{IsDistinct, distinct_across, distinct_append, distinct_back, distinct_front, distinct_head, distinct_tail}
-use Rattle.ng_lists.proofs.TableLemmas.{Split, after-split, before-split, first_split, next_in-split, rotated-split}
+use Rattle.ng_lists.proofs.DistinctLemmas.{IsDistinct, distinct_across, distinct_append, distinct_back, distinct_front, distinct_tail}
+use Rattle.ng_lists.proofs.TableLemmas.{after-split, before-split, first_split, next_in-split, rotated-split}
 
 -- ---- the meta after one is the same in the rotated ring
 first_of : (xs ys : List ℕ) → xs ≡ ys → get_or xs 0 0 ≡ get_or ys 0 0

@@ -17,7 +17,8 @@ pub record IsChoice (v : View) (choice : Choice) : Type 0 where
   pub small : choice.lowest < 32
   pub within : OfGroup v choice.meta (λ g. choice.lowest ≤ g.last)
 
--- the avail mask of a meta was read to be 0 and then its freed mask, whose bits are noted and are of the group's slots
+-- the avail mask of a meta was read to be 0, and then its freed mask, whose bits are noted and are
+-- of the group's slots
 pub record ReadsMasks (v : View) (meta freed : ℕ) (w : View) : Type 0 where
   pub word : ℕ
   pub no_avail : word % 2 ^ 32 ≡ 0

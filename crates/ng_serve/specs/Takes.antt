@@ -1,5 +1,5 @@
 -- Slots of a group that come out of its freed mask, and go into its masks again.
-use Rattle.std.specs.Prelude.{◌≡◌, ◌≢◌, ℕ, ◌^◌, ◌<◌, ◌≤◌, List, ◌∷◌, ◌++◌, Some, None}
+use Rattle.std.specs.Prelude.{◌≡◌, ◌≢◌, ℕ, ◌<◌, ◌≤◌, List, ◌∷◌, ◌++◌, Some, None}
 use Rattle.ng_view.specs.Lists.{Among, find, without}
 use Rattle.ng_view.specs.LockSteps.{bits_of, let_go}
 use Rattle.ng_view.specs.Slots.{IsPlain}
@@ -47,8 +47,8 @@ pub record PutsBits (v : View) (meta bits : ℕ) (w : View) : Type 0 where
   pub avail : w.desk.zero_avail ≡ v.desk.zero_avail
   pub held : w.held ≡ let_go meta (bits_of bits) v.held
 
--- a live group of that meta may have slots in its masks: its slots have the whole size of a class below 48, and it is
--- listed
+-- a live group of that meta may have slots in its masks: its slots have the whole size of a class
+-- below 48, and it is listed
 pub record IsServed (v : View) (meta : ℕ) : Type 0 where
   pub group : Group
   pub there : Among group v.desk.groups

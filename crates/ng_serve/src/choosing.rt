@@ -1,5 +1,5 @@
 //! Which group of a ring serves next, by the freed masks of all.
-ghost use Rattle.std.specs.Prelude.{◌≡◌, ◌⊎◌, ◌+◌, ◌<◌, ◌≤◌, ◌∷◌, Contains, IfNone, IfSome, Some};
+ghost use Rattle.std.specs.Prelude.{◌≡◌, ◌⊎◌, ◌<◌, Contains, IfNone, IfSome};
 ghost use Rattle.ng_meta.specs.Place.{IsMetaPlace};
 ghost use Rattle.ng_view.specs.Lists.{Among};
 ghost use Rattle.ng_lists.specs.Rings.{ring_of};
@@ -61,9 +61,10 @@ impl Offer {
     }
 }
 
-/// The group of a ring whose freed slots are to be taken, of those from `start` on and once round: the first of which
-/// a freed slot is in use and not all are freed; else the first of which a freed slot is in use; else the first of
-/// which a slot is freed. There is none where each was read to be bare.
+/// The group of a ring whose freed slots are to be taken, of those from `start` on and once round:
+/// the first of which a freed slot is in use and not all are freed; else the first of which a freed
+/// slot is in use; else the first of which a slot is freed. There is none where each was read to be
+/// bare.
 pub fn choose<N: Name>(
     space: &Space<N>,
     seat: &mut LockSeat<N>,

@@ -1,5 +1,5 @@
 //! What a live group's words say of it, and how far its slots are in use.
-ghost use Rattle.std.specs.Prelude.{◌≡◌, ◌+◌, ◌%◌, ◌<◌, ◌≤◌};
+ghost use Rattle.std.specs.Prelude.{◌+◌, ◌<◌, ◌≤◌};
 ghost use Rattle.ng_meta.specs.Place.{IsMetaPlace};
 ghost use Rattle.ng_lock_moves.specs.Fetches.{HasGroup};
 ghost use Rattle.ng_lock_moves.specs.Stores.{IsActiveIndex};
@@ -19,8 +19,8 @@ const FLAGS: u64 = 32;
 /// Where a group has the highest index of its slots in use, from its base on.
 const ACTIVE: u64 = 8;
 
-/// The numbers of a live group: its address, its size class, the index of its last slot, and the pages of its run, 0
-/// for a nested one.
+/// The numbers of a live group: its address, its size class, the index of its last slot, and the
+/// pages of its run, 0 for a nested one.
 #[derive(Clone, Copy, Debug, PartialEq, Eq)]
 pub struct LiveGroup {
     pub base: u64,
@@ -50,7 +50,8 @@ pub fn group_of<N: Name>(space: &Space<N>, seat: &mut LockSeat<N>, meta: u64) ->
     }
 }
 
-/// The highest index of the slots in use in the live group at an address. Only its lowest five bits count.
+/// The highest index of the slots in use in the live group at an address. Only its lowest five bits
+/// count.
 pub fn active_index<N: Name>(space: &Space<N>, seat: &mut LockSeat<N>, base: u64) -> u32
     requires group { IsActiveIndex seat.old (base + 8) }
     requires inside { AreInSpace N.start.pages seat.old.desk.groups }
@@ -61,7 +62,8 @@ pub fn active_index<N: Name>(space: &Space<N>, seat: &mut LockSeat<N>, base: u64
     (space.load_seat(seat, base + ACTIVE) & 31) as u32
 }
 
-/// Raises the highest index in use of a live group until the slot `lowest` is in use, and answers it.
+/// Raises the highest index in use of a live group until the slot `lowest` is in use, and answers
+/// it.
 pub fn activate<N: Name>(
     space: &Space<N>,
     seat: &mut LockSeat<N>,

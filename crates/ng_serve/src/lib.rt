@@ -1,5 +1,5 @@
-//! Freed slots of live groups under the lock: the choice of a group in a ring, and the slots that come out of its
-//! freed mask and go back.
+//! Freed slots of live groups under the lock: the choice of a group in a ring, and the slots that
+//! come out of its freed mask and go back.
 #![tactic(auto)]
 
 mod choosing;

@@ -8,8 +8,8 @@ ghost use Rattle.ng_serve.specs.Takes.{HasBare, HasCaptured, IsServed, PutsBits,
 use ng_mask::stock;
 use ng_space::{LockSeat, Name, Space};
 
-/// Sets these bits in a group's freed mask, whose slots were in the seat, in motion. Nothing is done where there are
-/// none.
+/// Sets these bits in a group's freed mask, whose slots were in the seat, in motion. Nothing is done
+/// where there are none.
 pub fn put_bits<N: Name>(space: &Space<N>, seat: &mut LockSeat<N>, meta: u64, bits: u32)
     requires place { IsMetaPlace meta N.start.pages }
     requires may { 0 < bits → MayPutBack seat.old meta bits }
@@ -30,7 +30,8 @@ pub fn put_slot<N: Name>(space: &Space<N>, seat: &mut LockSeat<N>, meta: u64, in
     put_bits(space, seat, meta, 1 << index);
 }
 
-/// Sets the bits of two masks again that were captured, and the bit of one more slot in the freed mask.
+/// Sets the bits of two captured masks again, of avail and of freed, and the bit of one more slot in
+/// the freed mask.
 pub fn put_captured<N: Name>(
     space: &Space<N>,
     seat: &mut LockSeat<N>,

@@ -11,8 +11,9 @@ use ng_class::lowest_bit;
 use ng_mask::{stock, take};
 use ng_space::{LockSeat, Name, Space};
 
-/// Takes the freed slots 0 to `upto` of a live group, one of which is noted, out of its freed mask. The lowest is the
-/// answer and in the seat, in motion; the others are in the avail mask, which was noted as 0.
+/// Takes the freed slots 0 to `upto` of a live group, one of which is noted, out of its freed mask.
+/// The lowest is the answer and in the seat, in motion; the others are in the avail mask, which was
+/// noted as 0.
 pub fn take_freed<N: Name>(space: &Space<N>, seat: &mut LockSeat<N>, meta: u64, upto: u32) -> u32
     requires place { IsMetaPlace meta N.start.pages }
     requires live { HasGroup seat.old meta }
@@ -27,7 +28,8 @@ pub fn take_freed<N: Name>(space: &Space<N>, seat: &mut LockSeat<N>, meta: u64, 
     index
 }
 
-/// Puts those of a live group's slots in use that are freed into its avail mask, which was noted as 0.
+/// Puts those of a live group's slots in use that are freed into its avail mask, which was noted as
+/// 0.
 pub fn stock_freed<N: Name>(space: &Space<N>, seat: &mut LockSeat<N>, meta: u64)
     requires place { IsMetaPlace meta N.start.pages }
     requires live { HasGroup seat.old meta }

@@ -1,4 +1,4 @@
-use Rattle.std.proofs.Common.{◌≡◌, ◌<◌, [], length, arith, refl, sym, subst}
+use Rattle.std.proofs.Common.{◌<◌, [], length, arith, sym, subst}
 use Rattle.std.specs.Prelude.{IfNone}
 use Rattle.ng_lists.specs.Rings.{ring_of}
 use Rattle.ng_serve.specs.Choices.{FindsAllBare}

@@ -1,4 +1,4 @@
-use Rattle.std.proofs.Common.{◌<◌, ◌^◌, arith}
+use Rattle.std.proofs.Common.{arith}
 use Rattle.ng_serve.proofs.Looks.{freed_fits, reads_masks}
 use Rattle.ng_serve.proofs.choosing.freed_mask.Goals as goal
 

@@ -1,7 +1,5 @@
-use Rattle.std.proofs.Common.{◌≡◌, ◌+◌, ◌*◌, ◌<◌, ◌≤◌, inl, inr, refl, arith}
-use Rattle.ng_lock_moves.specs.Stores.{IsActiveIndex}
+use Rattle.std.proofs.Common.{inl, inr, refl, arith}
 use Rattle.ng_serve.proofs.Fields.{index_cell, index_stays, reads_stored}
-use Rattle.ng_serve.proofs.group.activate.Given.{Over}
 use Rattle.ng_serve.proofs.group.activate.Goals as goal
 
 pub loop-active-init : goal.loop-active-init

@@ -1,4 +1,4 @@
-use Rattle.std.proofs.Common.{◌≡◌, ◌+◌, ◌*◌, ◌<◌, ◌≤◌, refl, arith}
+use Rattle.std.proofs.Common.{refl, arith}
 use Rattle.std.proofs.lemmas.Nat.{and_mask}
 use Rattle.ng_serve.proofs.Fields.{index_cell, index_reads, reads_index}
 use Rattle.ng_serve.proofs.group.active_index.Goals as goal
