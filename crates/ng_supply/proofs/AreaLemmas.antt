@@ -1,17 +1,15 @@
 -- A new run becomes an area, whose metas the stock has.
-use Rattle.std.proofs.Common.{◌≡◌, ◌≢◌, ◌⊎◌, ℕ, ◌+◌, ◌*◌, ◌%◌, ◌<◌, ◌≤◌, true, List, [], ◌∷◌, ◌++◌, refl, sym, ap, subst, ◌∙◌, inl, inr, ⊎_elim, append_assoc, arith}
+use Rattle.std.proofs.Common.{◌≡◌, ◌≢◌, ◌⊎◌, ℕ, ◌+◌, ◌*◌, ◌<◌, ◌≤◌, List, [], ◌∷◌, ◌++◌, refl, sym, ap, subst, ◌∙◌, inl, inr, ⊎_elim, append_assoc, arith}
 use Rattle.std.proofs.lemmas.Bool.{eq-eqb, ne_eqb}
-use Rattle.ng_meta.specs.Place.{meta_place}
 use Rattle.ng_mapper.specs.Mapping.{AreLaid, IsSpan, Span}
 use Rattle.ng_mapper.specs.Runs as mapper
+use Rattle.ng_mapper.proofs.LaidLemmas.{lies-contained}
 use Rattle.ng_mapper.specs.declared.refusals.Refusals.{Refusals}
 use Rattle.ng_shelf.specs.Stock.{Stock, free_of, metas_of}
 use Rattle.ng_view.specs.Conditions.{IsEmpty, Sees}
 use Rattle.ng_view.specs.Layouts.{InArea, IsAreaAt}
 use Rattle.ng_view.specs.Lists.{Among}
-use Rattle.ng_view.specs.LockSteps.{run_noted, runs_but}
-use Rattle.ng_view.specs.Steps.{read}
-use Rattle.ng_view.specs.declared.view.Group.{Group}
+use Rattle.ng_view.specs.LockSteps.{runs_but}
 use Rattle.ng_view.specs.declared.view.Layout.{Layout}
 use Rattle.ng_view.specs.declared.view.Run.{Run}
 use Rattle.ng_view.specs.declared.view.Start.{Start}
@@ -20,13 +18,13 @@ use Rattle.ng_lock_moves.specs.Notes.{IsClearedRun, IsNewRun, plain_run}
 use Rattle.ng_lock_moves.proofs.Knowing.{sees-run_else}
 use Rattle.ng_build.specs.Areas.{AreMetasZero, with_area, with_runs}
 use Rattle.ng_build.specs.Cells.{KeepsOutside, OnlyCells, knowing}
-use Rattle.ng_ledger.specs.Metas.{AreFree, AreOfAreas, IsBlankMeta}
+use Rattle.ng_ledger.specs.Metas.{AreFree, IsBlankMeta}
 use Rattle.ng_ledger.specs.Groups.{IsUnborn}
 use Rattle.ng_ledger.specs.Runs.{AreMapped, AreServed}
 use Rattle.ng_ledger.proofs.AreaLemmas.{IsOfArea, area_at_new, area_new, area_stays, areas_more}
 use Rattle.ng_ledger.proofs.MetaLemmas.{free_area, of_areas_moved}
 use Rattle.ng_ledger.proofs.RunLemmas.{mapped_area}
-use Rattle.ng_supply.specs.Metas.{AddsArea, IsHeapStock, area_run}
+use Rattle.ng_supply.specs.Metas.{IsHeapStock, area_run}
 use Rattle.ng_supply.specs.Runs.{IsHeapMapper, IsInSpace, MapsRun}
 
 -- a list without a run at an address
@@ -115,7 +113,7 @@ module _ (start : Start) (v u w : View) (a : ℕ) (maps : MapsRun start v a 1 u)
   kept_area kept b x out sees = kept b x out (subst (λ (y : View). Sees y b x) (sym maps.note.view) (sees-run_else v a 1 b x sees))
 
 module _ (start : Start) (v w : View) (a : ℕ) (new : IsNewRun start v a 1) (space : IsInSpace start a 1) (only : OnlyCells (with_runs v (area_run a ∷ v.desk.layout.runs)) w) (s s' : Stock) (is : IsHeapStock start v s) (none : free_of s ≡ []) (stock : s' ≡ record s { unused = metas_of a; area = a }) where
-  layout : Layout
+  abbrev layout : Layout
   layout = record { runs = area_run a ∷ v.desk.layout.runs; nests = v.desk.layout.nests }
 
   unborn : (m : ℕ) → IsOfArea a m → IsUnborn v.desk.groups m

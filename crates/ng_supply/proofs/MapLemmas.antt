@@ -1,13 +1,12 @@
 -- What a mapper's new run is for the lock's seat.
-use Rattle.std.proofs.Common.{◌≡◌, ◌≢◌, ℕ, ◌+◌, ◌*◌, ◌%◌, ◌<◌, ◌≤◌, true, List, ◌∷◌, refl, sym, ap, subst, ◌∙◌, inl, inr, arith}
+use Rattle.std.proofs.Common.{◌≡◌, ℕ, ◌≤◌, true, List, sym, ap, subst, ◌∙◌, arith}
 use Rattle.ng_mapper.specs.Mapping.{AreLaid, IsFree, IsSpan, Span}
 use Rattle.ng_mapper.specs.Runs as mapper
 use Rattle.ng_mapper.specs.declared.refusals.Refusals.{Refusals}
-use Rattle.ng_view.specs.Conditions.{IsEmpty, Sees}
-use Rattle.ng_view.specs.Lists.{Among}
+use Rattle.ng_view.specs.Conditions.{Sees}
 use Rattle.ng_view.specs.declared.view.Start.{Start}
 use Rattle.ng_view.specs.declared.view.View.{View}
-use Rattle.ng_lock_moves.specs.Notes.{IsClearedRun, IsNewRun, NotesRun, plain_run}
+use Rattle.ng_lock_moves.specs.Notes.{IsNewRun, NotesRun}
 use Rattle.ng_lock_moves.proofs.Knowing.{sees-run}
 use Rattle.ng_ledger.specs.Runs.{AreMapped}
 use Rattle.ng_ledger.proofs.RunLemmas.{mapped_new, new_run}

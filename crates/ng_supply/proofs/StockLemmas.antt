@@ -1,11 +1,11 @@
 -- The next meta of the stock is taken.
-use Rattle.std.proofs.Common.{◌≡◌, ◌≢◌, ◌⊎◌, ℕ, ◌+◌, ◌*◌, ◌<◌, ◌≤◌, List, [], ◌∷◌, ◌++◌, AllPairs, Contains, Some, drop, refl, sym, ap, subst, ◌∙◌, inl, inr, arith}
-use Rattle.std.specs.List.{slice_get}
+use Rattle.std.proofs.Common.{◌≡◌, ◌≢◌, ◌⊎◌, ℕ, ◌+◌, List, [], ◌∷◌, Contains, refl, sym, ap, subst, ◌∙◌, inl, inr, arith}
 use Rattle.std.proofs.lemmas.List.{append-nil}
+use Rattle.std.proofs.lemmas.List.Elements.{Contains-append_right}
+use Rattle.ng_meta.specs.Place.{meta_place}
 use Rattle.ng_mapper.specs.Runs as mapper
 use Rattle.ng_shelf.specs.Stock.{Stock, free_of, metas_of}
-use Rattle.ng_shelf.proofs.StockLemmas.{front_empty}
-use Rattle.ng_view.specs.Layouts.{InArea}
+use Rattle.ng_view.specs.Layouts.{InArea, IsAreaAt}
 use Rattle.ng_view.specs.Lists.{Among}
 use Rattle.ng_view.specs.LockSteps.{runs_but}
 use Rattle.ng_view.specs.declared.view.Run.{Run}
@@ -15,22 +15,21 @@ use Rattle.ng_lock_moves.specs.Notes.{plain_run}
 use Rattle.ng_build.specs.Areas.{with_runs}
 use Rattle.ng_build.specs.Cells.{OnlyCells}
 use Rattle.ng_ledger.specs.Metas.{IsInHand}
-use Rattle.ng_ledger.proofs.AreaLemmas.{area_stays, areas_more}
+use Rattle.ng_ledger.proofs.AreaLemmas.{KeepsAreas, area_stays, areas_more}
 use Rattle.ng_ledger.proofs.HandLemmas.{hand_area_more, hand_area_was, hand_taken_more, hand_taken_other}
-use Rattle.ng_ledger.proofs.MetaLemmas.{blank_kept, free_left, free_taken}
-use Rattle.ng_supply.specs.Metas.{AddsArea, ComesInHand, FindsMeta, IsHeapStock, IsNext, TakesNext, TakesOfArea, area_run}
+use Rattle.ng_ledger.proofs.MetaLemmas.{area_contains, blank_kept, free_left, free_taken}
+use Rattle.ng_supply.specs.Metas.{AddsArea, FindsMeta, IsHeapStock, IsNext, area_run}
 use Rattle.ng_supply.proofs.AreaLemmas.{area_apart, runs_none}
 
--- two empty stocks are the same
-pub stock_same : (s s' : Stock) → free_of s ≡ [] → free_of s' ≡ [] → s'.area ≡ s.area → s'.pages ≡ s.pages → s' ≡ s
-stock_same s s' none none' area pages =
-    let returned : s'.returned ≡ s.returned = front_empty s'.returned s'.unused none' ∙ sym (front_empty s.returned s.unused none) in
-    let unused : s'.unused ≡ s.unused = back_empty s'.returned s'.unused none' ∙ sym (back_empty s.returned s.unused none) in
-    ap (λ xs. record { returned = xs; unused = s'.unused; area = s'.area; pages = s'.pages }) returned ∙ ap (λ xs. record { returned = s.returned; unused = xs; area = s'.area; pages = s'.pages }) unused ∙ ap (λ n. record { returned = s.returned; unused = s.unused; area = n; pages = s'.pages }) area ∙ ap (λ n. record { returned = s.returned; unused = s.unused; area = s.area; pages = n }) pages
+-- a stock with a new area has a meta
+pub some_metas : (s s' : Stock) (a : ℕ) → s' ≡ record s { unused = metas_of a; area = a } → free_of s' ≢ []
+some_metas s s' a stock none = nothing (subst (λ xs. Contains xs (meta_place a 0)) (ap free_of (sym stock) ∙ none) (Contains-append_right s.returned (metas_of a) (meta_place a 0) first))
   where
-    back_empty : (xs ys : List ℕ) → xs ++ ys ≡ [] → ys ≡ []
-    back_empty [] ys none = none
-    back_empty (x ∷ xs) ys none = absurd cc
+    first : Contains (metas_of a) (meta_place a 0)
+    first = area_contains a (meta_place a 0) (record { number = 0; below = omega arith; place = refl })
+
+    nothing : ¬ Contains [] (meta_place a 0)
+    nothing (k, within, is) = absurd (omega arith)
 
 module _ (start : Start) (v : View) (s : Stock) (is : IsHeapStock start v s) (m : ℕ) (s' : Stock) (next : IsNext s m s') where
   -- the stock without the meta
