@@ -6,7 +6,7 @@ use Rattle.ng_lists.proofs.CircleLemmas.{only}
 use Rattle.ng_lists.proofs.DistinctLemmas.{IsDistinct, distinct_append, distinct_back, distinct_cons, distinct_across, distinct_front, distinct_tail}
 use Rattle.ng_lists.proofs.RingLemmas.{all_of}
 use Rattle.ng_meta.specs.Place.{IsMetaPlace, meta_place}
-use Rattle.ng_shelf.specs.Stock.{metas_from}
+use Rattle.ng_shelf.specs.Stock.{Stock, free_of, metas_from, metas_of}
 use Rattle.ng_shelf.specs.Stocked.{IsStock, unused_of}
 
 -- a meta of an area, with its index
@@ -73,6 +73,18 @@ stocked_area area pages greatest page above below = record {
   below = below;
   once = distinct_from area 0 101;
 }
+
+-- a meta behind a new area isn't free
+pub behind_area : (stock : Stock) (area meta : ℕ) → free_of stock ≡ [] → area + 4064 ≤ meta → ¬ Contains (free_of (record stock { unused = metas_of area; area = area })) meta
+behind_area stock area meta none behind in' = ⊎_elim
+    (λ (returned : Contains stock.returned meta). nothing (subst (λ xs. Contains xs meta) (front_empty stock.returned stock.unused none) returned))
+    (λ (unused : Contains (metas_of area) meta).
+    let from : IsFrom area 0 101 meta = member_from area 0 101 meta unused in
+    omega (arith, from.below, from.place))
+    (Contains-append_cases stock.returned (metas_of area) meta in')
+  where
+    nothing : ¬ Contains [] meta
+    nothing (k, within, is) = absurd (omega arith)
 
 module _ {returned : List ℕ} {area unused pages : ℕ} (is : IsStock returned area unused pages) where
   pub area_low : area < 4294967296

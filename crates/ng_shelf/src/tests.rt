@@ -1,4 +1,6 @@
-use crate::{FreeMetas, Parents, RunShape, first_active, is_nested_size, raised, run_shape};
+use crate::{
+    FreeMetas, MetaStock, Parents, RunShape, first_active, is_nested_size, raised, run_shape,
+};
 use ng_class::units;
 use ng_meta::is_meta_place;
 use ng_policy::Ask;
@@ -56,6 +58,19 @@ fn oldest_first(rt: HostRuntime) -> Result<(), Fail> {
     for other in [0, 0x18, 0x1000, 0x1020, 0x1_0018, 0xffff_ffff_ffff_f018] {
         assert!(rt; !free.has(other), "{other:#x} in the list");
     }
+    Ok(())
+}
+
+#[test]
+fn returned_before_unused(rt: HostRuntime) -> Result<(), Fail> {
+    let mut stock = MetaStock::open(rt.alloc(), 16)?;
+    stock.add_area(0x1000);
+    assert_eq!(rt; stock.area(), 0x1000);
+    assert!(rt; is_meta_place(D, 16));
+    stock.put(D);
+    assert_eq!(rt; stock.take(), Some(D));
+    assert_eq!(rt; stock.take(), Some(A));
+    assert_eq!(rt; stock.take(), Some(B));
     Ok(())
 }
 

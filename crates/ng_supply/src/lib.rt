@@ -1,4 +1,4 @@
-//! Where the heap's core takes runs and metas from: its mapper and its stock of metas, or the mapper's refusal.
+//! Where the heap's core takes runs and metas from: its mapper and its stock of metas.
 #![tactic(auto)]
 
 mod meta;

@@ -17,17 +17,21 @@ pub fn find_meta<N: Name, M: Mapper>(
     mapper: &mut M,
     stock: &mut MetaStock,
 ) -> Result<u64, u64>
-    requires mapper { IsHeapMapper N.start seat.old (M.span mapper.old) (M.runs mapper.old) (M.refused mapper.old) }
+    requires mapper { IsHeapMapper N.start seat.old
+        (M.span mapper.old) (M.runs mapper.old) (M.refused mapper.old) }
     requires stock { IsHeapStock N.start seat.old stock.old }
-    ensures mapper { IsHeapMapper N.start seat.new (M.span mapper.new) (M.runs mapper.new) (M.refused mapper.new) }
+    ensures mapper { IsHeapMapper N.start seat.new
+        (M.span mapper.new) (M.runs mapper.new) (M.refused mapper.new) }
     ensures stock { IsHeapStock N.start seat.new stock.new }
     ensures constant { M.span mapper.new ≡ M.span mapper.old }
 
-    ensures ok { IfOk result (λ meta. FindsMeta N.start seat.old (M.runs mapper.old) stock.old meta seat.new (M.runs mapper.new) stock.new) }
+    ensures ok { IfOk result (λ meta. FindsMeta N.start
+        seat.old (M.runs mapper.old) stock.old meta seat.new (M.runs mapper.new) stock.new) }
     ensures calm { OnOk result (M.refused mapper.new ≡ M.refused mapper.old) }
 
     // A page is asked for where the stock is empty, and nowhere else.
-    ensures err { IfErr result (λ number. RefusesRun seat.old (M.refused mapper.old) (M.refused mapper.new) 1 number seat.new) }
+    ensures err { IfErr result (λ number. RefusesRun
+        seat.old (M.refused mapper.old) (M.refused mapper.new) 1 number seat.new) }
     ensures none { OnErr result (free_of stock.old ≡ []) }
     ensures stock_kept { OnErr result (stock.new ≡ stock.old) }
     ensures runs_kept { OnErr result (M.runs mapper.new ≡ M.runs mapper.old) }
@@ -60,17 +64,21 @@ fn add_area<N: Name, M: Mapper>(
     mapper: &mut M,
     stock: &mut MetaStock,
 ) -> Result<u64, u64>
-    requires mapper { IsHeapMapper N.start seat.old (M.span mapper.old) (M.runs mapper.old) (M.refused mapper.old) }
+    requires mapper { IsHeapMapper N.start seat.old
+        (M.span mapper.old) (M.runs mapper.old) (M.refused mapper.old) }
     requires stock { IsHeapStock N.start seat.old stock.old }
     requires none { free_of stock.old ≡ [] }
-    ensures mapper { IsHeapMapper N.start seat.new (M.span mapper.new) (M.runs mapper.new) (M.refused mapper.new) }
+    ensures mapper { IsHeapMapper N.start seat.new
+        (M.span mapper.new) (M.runs mapper.new) (M.refused mapper.new) }
     ensures constant { M.span mapper.new ≡ M.span mapper.old }
 
-    ensures ok { IfOk result (λ addr. AddsArea N.start seat.old (M.runs mapper.old) stock.old addr seat.new (M.runs mapper.new) stock.new) }
+    ensures ok { IfOk result (λ addr. AddsArea N.start
+        seat.old (M.runs mapper.old) stock.old addr seat.new (M.runs mapper.new) stock.new) }
     ensures stock { OnOk result (IsHeapStock N.start seat.new stock.new) }
     ensures calm { OnOk result (M.refused mapper.new ≡ M.refused mapper.old) }
 
-    ensures err { IfErr result (λ number. RefusesRun seat.old (M.refused mapper.old) (M.refused mapper.new) 1 number seat.new) }
+    ensures err { IfErr result (λ number. RefusesRun
+        seat.old (M.refused mapper.old) (M.refused mapper.new) 1 number seat.new) }
     ensures stock_kept { OnErr result (stock.new ≡ stock.old) }
     ensures runs_kept { OnErr result (M.runs mapper.new ≡ M.runs mapper.old) }
 {

@@ -14,15 +14,19 @@ pub fn map_run<N: Name, M: Mapper>(
     pages: u64,
 ) -> Result<u64, u64>
     requires pages { 1 ≤ pages }
-    requires mapper { IsHeapMapper N.start seat.old (M.span mapper.old) (M.runs mapper.old) (M.refused mapper.old) }
-    ensures mapper { IsHeapMapper N.start seat.new (M.span mapper.new) (M.runs mapper.new) (M.refused mapper.new) }
+    requires mapper { IsHeapMapper N.start seat.old
+        (M.span mapper.old) (M.runs mapper.old) (M.refused mapper.old) }
+    ensures mapper { IsHeapMapper N.start seat.new
+        (M.span mapper.new) (M.runs mapper.new) (M.refused mapper.new) }
     ensures constant { M.span mapper.new ≡ M.span mapper.old }
 
     ensures ok { IfOk result (λ addr. MapsRun N.start seat.old addr pages seat.new) }
-    ensures mapped { IfOk result (λ addr. AddsRun (M.runs mapper.old) (M.runs mapper.new) (addr, pages)) }
+    ensures mapped { IfOk result (λ addr.
+        AddsRun (M.runs mapper.old) (M.runs mapper.new) (addr, pages)) }
     ensures calm { OnOk result (M.refused mapper.new ≡ M.refused mapper.old) }
 
-    ensures err { IfErr result (λ number. RefusesRun seat.old (M.refused mapper.old) (M.refused mapper.new) pages number seat.new) }
+    ensures err { IfErr result (λ number. RefusesRun
+        seat.old (M.refused mapper.old) (M.refused mapper.new) pages number seat.new) }
     ensures kept { OnErr result (M.runs mapper.new ≡ M.runs mapper.old) }
 {
     match mapper.map(pages) {
