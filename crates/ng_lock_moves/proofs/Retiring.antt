@@ -89,6 +89,8 @@ module _ (key : Start) (id : ℕ) (v : View) (leads : v.leads ≡ true) (moves :
         index = slot.2;
         nested = n.nested;
         lower = n.lower;
+        begins = n.begins;
+        fits = n.fits;
       })
       laid.lies
     where

@@ -91,7 +91,7 @@ pub record HasAllSlots (v : View) (meta : ℕ) : Type 0 where
   pub live : HasGroup v meta
   pub each : (i : ℕ) → i ≤ live.group.last → (h : Held) × (find meta i v.held ≡ Some h)
 
--- a slot of a larger live group carries the group
+-- a slot of a larger live group carries the group, which lies in it from its start on
 pub record IsCarriedIn (v : View) (g : Group) : Type 0 where
   pub nest : Nest
   pub carries : nest_of g.meta v.desk.layout.nests ≡ Some nest
@@ -99,6 +99,8 @@ pub record IsCarriedIn (v : View) (g : Group) : Type 0 where
   pub index : nest.place.index ≤ nest.place.group.last
   pub nested : IsNested g nest.place.group
   pub lower : g.tag < nest.place.group.tag
+  pub begins : g.base ≡ slot_start nest.place
+  pub fits : reach g ≤ stride nest.place.group
 
 -- the group is no more: the slot that carried it is in motion again. No other live group began there. A
 -- group without pages of its own was carried by a slot; one with pages had a noted run, and no slot carried it
