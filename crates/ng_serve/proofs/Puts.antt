@@ -48,6 +48,7 @@ may_put_slot v meta index served slot = subst (MayPutBack v meta) (sym (is_pow i
 pub puts_slot : (v w : View) (meta index : ℕ) → HasBare v.held meta index → PutsBits v meta (one_bit index) w → PutsSlot v meta index w
 puts_slot v w meta index slot puts = record {
   changes = puts.changes;
+  avail = puts.avail;
   held = puts.held
       ∙ ap (λ n. let_go meta (bits_of n) v.held) (is_pow index slot.few)
       ∙ ap (λ (is : List ℕ). let_go meta is v.held) (bits_of-pow index slot.few);
@@ -120,5 +121,6 @@ module _ (v u t : View) (meta avail freed index : ℕ) (served : IsServed v meta
       pub puts_captured : (w : View) → PutsSlot t meta index w → PutsCaptured v meta avail freed index w
       puts_captured w puts_last = record {
         changes = changes_then v t w meta (changes_then v u t meta puts.changes stocked) puts_last.changes;
+        bare = λ empty. puts_last.avail ∙ ap (λ (x : View). x.desk.zero_avail) (none empty) ∙ puts.avail;
         held = λ c. puts_last.held ∙ ap (without meta index) (after_avail c);
       }

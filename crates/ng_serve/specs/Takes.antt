@@ -63,9 +63,10 @@ pub record HasBare (held : List Held) (meta index : ℕ) : Type 0 where
   pub found : find meta index held ≡ Some slot
   pub bare : slot.block ≡ None
 
--- the slot is out of the seat
+-- the slot is out of the seat; of avail nothing changes
 pub record PutsSlot (v : View) (meta index : ℕ) (w : View) : Type 0 where
   pub changes : ChangesMasks v meta w
+  pub avail : w.desk.zero_avail ≡ v.desk.zero_avail
   pub held : w.held ≡ without meta index v.held
 
 -- in front of other slots, one of which is this, stand those of two masks that were captured
@@ -76,7 +77,8 @@ pub record HasCaptured (v : View) (meta avail freed index : ℕ) : Type 0 where
   pub held : v.held ≡ slots_of group freed ++ (slots_of group avail ++ before)
   pub slot : HasBare before meta index
 
--- the captured slots and that one are out of the seat
+-- the captured slots and that one are out of the seat; of avail nothing changes where its mask was 0
 pub record PutsCaptured (v : View) (meta avail freed index : ℕ) (w : View) : Type 0 where
   pub changes : ChangesMasks v meta w
+  pub bare : avail ≡ 0 → w.desk.zero_avail ≡ v.desk.zero_avail
   pub held : (c : HasCaptured v meta avail freed index) → w.held ≡ without meta index c.before
