@@ -1,5 +1,6 @@
 ghost use Rattle.std.specs.Prelude.{◌≡◌, ◌<◌};
 ghost use Rattle.ng_meta.specs.Place.{IsMetaPlace};
+ghost use Rattle.ng_space.specs.Placed.{AreOnce};
 ghost use Rattle.ng_space.specs.Tokens.{HasSlot};
 ghost use Rattle.ng_mask.specs.Pops.{HasPopCause, OnWon};
 
@@ -18,6 +19,7 @@ pub fn pop<N: Name>(space: &Space<N>, hand: &mut Hand<N>, meta: u64, class: u32)
     requires place { IsMetaPlace meta N.start.pages }
     requires class { class < 48 }
     ensures won { OnWon result (HasSlot hand.new) }
+    ensures once { OnWon result (λ slot. AreOnce hand.new.view) }
     ensures cause { HasPopCause hand.old.view meta class result hand.new.view }
     ensures number { hand.new.number ≡ hand.old.number }
     ensures spare { hand.new.spare ≡ hand.old.spare }

@@ -1,5 +1,7 @@
 -- Loads, and entries that are legal at any time.
-use Rattle.std.proofs.Common.{◌≡◌, ℕ, ◌+◌, ◌/◌, ◌%◌, [], ◌∷◌, ◌++◌, List, cond, eqb, eq-eqb, refl, ap, ◌∙◌, arith}
+use Rattle.std.proofs.Common.{◌≡◌, ℕ, ◌+◌, ◌/◌, ◌%◌, ◌≤◌, [], ◌∷◌, ◌++◌, List, cond, eqb, eq-eqb, refl, ap, ◌∙◌, arith}
+use mathlib.Core.Option.{some}
+use lib.ListN.{get_elem?}
 use Rattle.ng_terms.specs.declared.entry.Entry.{Entry}
 use Rattle.ng_terms.specs.declared.entry.Entry.TheVariants.{Give, Take, Resize, NoMemory, TooLarge, BadAlign, Refused}
 use Rattle.ng_view.specs.declared.view.Book.{Book}
@@ -8,20 +10,27 @@ use Rattle.ng_view.specs.declared.view.Start.{Start}
 use Rattle.ng_view.specs.Lists.{total_by, count_of}
 use Rattle.ng_view.specs.May.{May}
 use Rattle.ng_view.specs.Tells.{Tells}
-use Rattle.ng_view.specs.Views.{numbered}
+use Rattle.ng_view.specs.Rule.{Rule}
+use Rattle.ng_view.specs.Views.{has, numbered}
 use Rattle.ng_view.specs.Steps.{loaded, entered, read, write}
+use Rattle.ng_geometry.proofs.Facts as facts
 use Rattle.ng_moves.proofs.Moves.{loads_may}
 use Rattle.ng_moves.proofs.Tell.{tells}
 use Rattle.ng_entry_moves.proofs.EnterMoves.{too_large_may, bad_align_may, refused_may}
 use Rattle.ng_space.proofs.Placing.{lies_in}
-use Rattle.ng_space.specs.Placed.{ArePlaced}
+use Rattle.ng_space.specs.Placed.{AreOnce, ArePlaced}
 use Rattle.ng_space.specs.Entries.{IsLegalAnytime}
 
+-- each slot of a seat is there once
+pub once_held : (key : Start) (ws : List ℕ) (vs : List View) (id : ℕ) (v : View) → Rule key ws vs → get_elem? vs id ≡ some v → AreOnce v
+once_held key ws vs id v kept at h there =
+    let o : has h.place.group.meta h.place.index v ≤ 1 = facts.once ws vs kept.slots id v h.place at (kept.slots.held id v at h there) in omega arith
+
 -- a load, with what it tells
-pub loads_and_tells : (key : Start) (id : ℕ) (v : View) (a : ℕ) → a % 4 ≡ 0 → May key id v (a / 4) (λ n. n) (λ v n w. (w ≡ loaded v a n) × Tells key v a n × ArePlaced key v)
+pub loads_and_tells : (key : Start) (id : ℕ) (v : View) (a : ℕ) → a % 4 ≡ 0 → May key id v (a / 4) (λ n. n) (λ v n w. (w ≡ loaded v a n) × Tells key v a n × ArePlaced key v × AreOnce v)
 loads_and_tells key id v a al ws vs kept at fits =
     let step = loads_may key id v a al ws vs kept at fits in
-    (step.0, step.1, (step.2, tells key ws vs id v kept at a al, λ h s. lies_in key ws vs id v kept at h s))
+    (step.0, step.1, (step.2, tells key ws vs id v kept at a al, (λ h s. lies_in key ws vs id v kept at h s), once_held key ws vs id v kept at))
 
 -- the number of a view with one book
 pub one_number : (v : View) (k : ℕ) (es : List Entry) → v.books ≡ record { number = k; entries = es } ∷ [] → numbered k v ≡ 1

@@ -1,9 +1,9 @@
 -- A slot stays in a hand's view over loads, and comes into it by a pop.
-use Rattle.std.proofs.Common.{◌≡◌, ℕ, ◌+◌, ◌<◌, ◌≤◌, ◌%◌, ◌/◌, ◌&&◌, eqb, eq-eqb, cond, Bool, true, false, List, [], ◌∷◌, map, refl, sym, ap, ◌∙◌, subst, arith}
+use Rattle.std.proofs.Common.{◌≡◌, ℕ, ◌+◌, ◌<◌, ◌≤◌, ◌%◌, ◌/◌, ◌&&◌, eqb, eq-eqb, cond, Bool, true, false, List, [], ◌∷◌, map, refl, sym, ap, ◌∙◌, subst, inl, inr, arith}
 use prog.Atomic.{either}
 use Rattle.std.specs.Prelude.{Some}
 use Rattle.std.specs.Int.{trailing_zeros, w32}
-use Rattle.ng_view.specs.Lists.{find, is_at}
+use Rattle.ng_view.specs.Lists.{Among, count_of, find, is_at, total_by}
 use Rattle.ng_view.specs.May.{May}
 use Rattle.ng_view.specs.Steps.{in_motion, learnt, loaded, popped, read, stored}
 use Rattle.ng_view.specs.Tells.{Tells}
@@ -16,7 +16,7 @@ use Rattle.ng_geometry.proofs.Lists.{find_among, is_at-true}
 use Rattle.ng_moves.proofs.Moves.{Popping, Pushing, pops_may, pushes_may, stores_own_may}
 use Rattle.ng_space.specs.Callers.{Caller}
 use Rattle.ng_space.specs.Masks.{HasFree}
-use Rattle.ng_space.specs.Placed.{IsRead}
+use Rattle.ng_space.specs.Placed.{AreOnce, IsRead, times_at}
 use Rattle.ng_space.specs.Tokens.{HasSlot, Token}
 
 pub find-map : (m i : ℕ) (t : Held → Held) (hs : List Held) (h : Held) → ((y : Held) → (t y).place ≡ y.place) → find m i hs ≡ Some h → find m i (map t hs) ≡ Some (t h)
@@ -90,3 +90,24 @@ pub pops_lowest : (key : Start) (id : ℕ) (v : View) (m seen low : ℕ) → (v.
     → May key id v ((m + 24) / 4) (λ n. either (eqb n seen) (cleared seen (trailing_zeros w32 low)) n) (Popping m seen (trailing_zeros w32 low))
 pops_lowest key id v m seen low caller al tagged some_bit is =
     subst (λ l. May key id v ((m + 24) / 4) (λ n. either (eqb n seen) (cleared seen (trailing_zeros w32 l)) n) (Popping m seen (trailing_zeros w32 l))) (sym is) (pops_may key id v m seen caller al tagged some_bit)
+
+-- a list in which each slot stands once is so too once more cells are known
+times-map : (m i : ℕ) (t : Held → Held) (hs : List Held) → ((y : Held) → (t y).place ≡ y.place)
+    → total_by (λ (k : Held). count_of (is_at m i k.place)) (map t hs) ≡ total_by (λ (k : Held). count_of (is_at m i k.place)) hs
+times-map m i t [] same = refl
+times-map m i t (y ∷ hs) same =
+    let first : count_of (is_at m i (t y).place) ≡ count_of (is_at m i y.place) = ap (λ p. count_of (is_at m i p)) (same y) in
+    let rest = times-map m i t hs same in
+    ap (λ n. n + total_by (λ (k : Held). count_of (is_at m i k.place)) (map t hs)) first ∙ ap (λ n. count_of (is_at m i y.place) + n) rest
+
+from-map : (t : Held → Held) (hs : List Held) (h : Held) → Among h (map t hs) → (y : Held) × Among y hs × (h ≡ t y)
+from-map t [] h there = absurd there
+from-map t (y ∷ hs) h (inl here) = (y, inl refl, here)
+from-map t (y ∷ hs) h (inr later) = let found = from-map t hs h later in (found.0, inr found.1, found.2)
+
+pub once_loaded : (v : View) (a x : ℕ) → AreOnce v → AreOnce (loaded v a x)
+once_loaded v a x once h there =
+    let found = from-map (learnt a x) v.held h there in
+    let place : h.place ≡ found.0.place = ap (λ (k : Held). k.place) found.2 in
+    subst (λ p. times_at p.group.meta p.index (loaded v a x) ≤ 1) (sym place)
+    (subst (λ n. n ≤ 1) (sym (times-map found.0.place.group.meta found.0.place.index (learnt a x) v.held (λ y. refl))) (once found.0 found.1))

@@ -3,7 +3,7 @@ use Rattle.std.specs.Prelude.{◌≡◌, ℕ, ◌+◌, ◌-◌, ◌*◌, ◌%◌
 use Rattle.ng_class.specs.Slot.{IsGroupClass}
 use Rattle.ng_meta.specs.Place.{IsMetaPlace}
 use Rattle.ng_view.specs.Conditions.{HasFlags}
-use Rattle.ng_view.specs.Lists.{Among}
+use Rattle.ng_view.specs.Lists.{Among, count_of, is_at, total_by}
 use Rattle.ng_view.specs.Places.{reach}
 use Rattle.ng_view.specs.declared.view.Held.{Held}
 use Rattle.ng_view.specs.declared.view.Place.{Place}
@@ -24,6 +24,14 @@ pub record LiesIn (key : Start) (p : Place) : Type 0 where
 -- and so of each slot in a view
 abbrev pub ArePlaced : Start → View → Type 0
 ArePlaced key v = (h : Held) → Among h v.held → LiesIn key h.place
+
+-- how often a view has the slot i of the meta m
+abbrev pub times_at : ℕ → ℕ → View → ℕ
+times_at m i v = total_by (λ (k : Held). count_of (is_at m i k.place)) v.held
+
+-- and each slot stands there once
+abbrev pub AreOnce : View → Type 0
+AreOnce v = (h : Held) → Among h v.held → times_at h.place.group.meta h.place.index v ≤ 1
 
 -- the words of a meta's mem and flags are those of the place's group, and it is the slot of that index
 pub record IsRead (p : Place) (meta index base flags : ℕ) : Type 0 where

@@ -4,7 +4,7 @@ ghost use Rattle.ng_view.specs.May.{May};
 ghost use Rattle.ng_view.specs.Tells.{Tells};
 ghost use Rattle.ng_view.specs.Steps.{loaded};
 ghost use Rattle.ng_space.specs.Blocks.{BlockToken, HasBlock};
-ghost use Rattle.ng_space.specs.Placed.{ArePlaced};
+ghost use Rattle.ng_space.specs.Placed.{AreOnce, ArePlaced};
 ghost use Rattle.ng_space.specs.Tokens.{HasSlot, Token};
 ghost use Rattle.ng_space.specs.Entries.{IsLegalAnytime, Enters};
 
@@ -26,6 +26,7 @@ impl<N: Name> Space<N> {
         ensures view { hand.new.view ≡ loaded hand.old.view addr result }
         ensures told { Tells N.start hand.old.view addr result }
         ensures placed { ArePlaced N.start hand.old.view }
+        ensures once { AreOnce hand.old.view }
         ensures slots { (slot : Token) → HasSlot hand.old slot → HasSlot hand.new slot }
         ensures blocks { (block : BlockToken) → HasBlock hand.old block → HasBlock hand.new block }
         ensures number { hand.new.number ≡ hand.old.number }

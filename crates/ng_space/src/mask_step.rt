@@ -1,8 +1,9 @@
 // The single exchanges on masks, and stores in own slots.
-ghost use Rattle.std.specs.Prelude.{◌≡◌, ◌≢◌, ◌*◌, ◌/◌, ◌%◌, ◌<◌, ◌≤◌, ◌+◌, ◌^◌, IfErr, IfOk};
+ghost use Rattle.std.specs.Prelude.{◌≡◌, ◌≢◌, ◌*◌, ◌/◌, ◌%◌, ◌<◌, ◌≤◌, ◌+◌, ◌^◌, IfErr, IfOk, OnOk};
 ghost use Rattle.ng_meta.specs.Place.{IsMetaPlace};
 ghost use Rattle.ng_view.specs.Steps.{pushed, read, stored};
 ghost use Rattle.ng_space.specs.Masks.{HasFree, Looks, Pops};
+ghost use Rattle.ng_space.specs.Placed.{AreOnce};
 ghost use Rattle.ng_space.specs.Tokens.{HasSlot};
 
 use crate::hand::Hand;
@@ -49,6 +50,7 @@ impl<N: Name> Space<N> {
         ensures meta { IfOk result (λ slot. slot.meta ≡ meta) }
         ensures ok { IfOk result (λ slot. Pops hand.old.view meta seen slot.index hand.new.view) }
         ensures slot { IfOk result (HasSlot hand.new) }
+        ensures once { OnOk result (AreOnce hand.new.view) }
         ensures found { IfErr result (λ found. found ≢ seen) }
         ensures err { IfErr result (λ found. hand.new.view ≡ read hand.old.view (meta + 24) found) }
         ensures number { hand.new.number ≡ hand.old.number }
@@ -75,6 +77,7 @@ impl<N: Name> Space<N> {
         ensures meta { result.meta ≡ meta }
         ensures index { result.index ≡ index }
         ensures slot { HasSlot hand.new result }
+        ensures once { AreOnce hand.new.view }
         ensures number { hand.new.number ≡ hand.old.number }
         ensures spare { hand.new.spare ≡ hand.old.spare }
         ensures entries { hand.new.entries ≡ hand.old.entries }

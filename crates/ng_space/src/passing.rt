@@ -8,6 +8,7 @@ ghost use Rattle.ng_view.specs.Lists.{find};
 ghost use Rattle.ng_view.specs.Steps.{excuse_at, pushed, spent, unexcused, with_excuse};
 ghost use Rattle.ng_space.specs.Masks.{Looks};
 ghost use Rattle.ng_space.specs.Passed.{EntersNoMemory, HasExcuse, HasInMotion, HasNumber, with_slot};
+ghost use Rattle.ng_space.specs.Placed.{AreOnce};
 ghost use Rattle.ng_space.specs.Tokens.{HasSlot};
 
 use crate::excuse::Excuse;
@@ -39,6 +40,7 @@ impl<N: Name> Space<N> {
         ensures meta { result.meta ≡ meta }
         ensures index { result.index ≡ index }
         ensures slot { HasSlot hand.new result }
+        ensures once { AreOnce hand.new.view }
         ensures number { hand.new.number ≡ hand.old.number }
         ensures spare { hand.new.spare ≡ hand.old.spare }
         ensures entries { hand.new.entries ≡ hand.old.entries }

@@ -3,7 +3,7 @@ use Rattle.ng_view.specs.Steps.{loaded}
 use Rattle.ng_view.specs.Tells.{Tells}
 use Rattle.ng_view.specs.declared.view.View.{View}
 use Rattle.ng_space.specs.Callers.{Caller}
-use Rattle.ng_space.specs.Placed.{ArePlaced}
+use Rattle.ng_space.specs.Placed.{AreOnce, ArePlaced}
 use Rattle.ng_space.proofs.Granting.{loaded_block}
 use Rattle.ng_space.proofs.Holding.{has_loaded}
 use Rattle.ng_space.proofs.Entering.{loads_and_tells}
@@ -27,3 +27,6 @@ pub returns-clause-blocks : goal.returns-clause-blocks
 returns-clause-blocks g c = λ block has.
     let is = c.hand.view_is in
     loaded_block _ _ c.args.addr c.load_told.result block (c.load_told.ensures.told.0 ∙ ap (λ (hand : Caller). loaded hand.view c.args.addr c.load_told.result) is) (ap (λ (hand : Caller). hand.number) is) has
+
+pub returns-clause-once : goal.returns-clause-once
+returns-clause-once g c = subst AreOnce (ap (λ (hand : Caller). hand.view) c.hand.view_is) c.load_told.ensures.told.3

@@ -1,11 +1,11 @@
-use Rattle.std.proofs.Common.{ℕ, ◌+◌, ap, subst, ◌∙◌, arith}
+use Rattle.std.proofs.Common.{ℕ, ◌+◌, ap, subst, sym, ◌∙◌, arith}
 use Rattle.ng_view.specs.Lists.{find}
 use Rattle.ng_view.specs.Steps.{learnt, loaded}
 use Rattle.ng_view.specs.Tells.{Tells}
 use Rattle.ng_view.specs.declared.view.View.{View}
 use Rattle.ng_geometry.proofs.Lists.{find_among}
-use Rattle.ng_space.specs.Placed.{IsRead}
-use Rattle.ng_space.proofs.Holding.{find-loaded, read_of}
+use Rattle.ng_space.specs.Placed.{AreOnce, IsRead}
+use Rattle.ng_space.proofs.Holding.{find-loaded, once_loaded, read_of}
 use Rattle.ng_space.proofs.space.Space.slot_at.Given.{Over}
 use Rattle.ng_space.proofs.space.Space.slot_at.Goals as goal
 
@@ -40,3 +40,6 @@ returns-clause-slot g c =
       free = free.free;
       place = made.stands free.held.place (is_read g c.before);
     }
+
+pub returns-clause-once : goal.returns-clause-once
+returns-clause-once g c = subst AreOnce (sym c.load-flags.ensures.view) (once_loaded c.load-base.new.hand.view (c.args.meta + 32) c.load-flags.result c.load-flags.ensures.once)
