@@ -1,0 +1,8 @@
+pub mod States
+pub mod Steps
+pub mod Serving
+pub mod Building
+pub mod Returning
+pub mod Hands
+pub mod Opening
+pub mod ClassFor

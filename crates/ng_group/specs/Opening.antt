@@ -1,0 +1,40 @@
+-- How a core begins, and what it hands back.
+use Rattle.std.specs.Prelude.{◌≡◌, ℕ, List, [], replicate}
+use Rattle.ng_mapper.specs.Mapping.{Span}
+use Rattle.ng_mapper.specs.Runs as mapper
+use Rattle.ng_mapper.specs.declared.refusals.Refusals.{Refusals}
+use Rattle.ng_policy.specs.Bounce.{no_bounces}
+use Rattle.ng_shelf.specs.Parents.{ParentTable, parent_of}
+use Rattle.ng_shelf.specs.Stock.{Stock, free_of}
+use Rattle.ng_lists.specs.Rings.{RingTable}
+use Rattle.ng_space.specs.Callers.{opened}
+use Rattle.ng_view.specs.declared.view.Start.{Start}
+use Rattle.ng_view.specs.declared.view.View.{View}
+
+-- the seat is one that a space was opened with, for some number of hands
+pub record IsFreshSeat (start : Start) (v : View) : Type 0 where
+  pub hands : ℕ
+  pub view : v ≡ opened start hands
+
+-- the mapper is that of the start: no run is live, and it refused so many calls
+pub record IsFreshMapper (start : Start) (span : Span) (live : List mapper.Run) (refused : Refusals) : Type 0 where
+  pub lower : span.lower ≡ start.lower
+  pub upper : span.upper ≡ start.upper
+  pub size : span.size ≡ start.pages
+  pub none : live ≡ []
+  pub count : refused.count ≡ start.refusals
+
+-- the tables of a core, before a group is built
+pub record Empty : Type 0 where
+  pub rings : RingTable
+  pub stock : Stock
+  pub parents : ParentTable
+
+-- they are empty, and for a space of so many pages
+pub record AreEmpty (pages : ℕ) (tables : Empty) : Type 0 where
+  pub rings : tables.rings.rings ≡ replicate 48 []
+  pub stock : free_of tables.stock ≡ []
+  pub area : tables.stock.area ≡ 0
+  pub ring_pages : tables.rings.pages ≡ pages
+  pub stock_pages : tables.stock.pages ≡ pages
+  pub parent_pages : tables.parents.pages ≡ pages

@@ -1,0 +1,95 @@
+-- Slots that are returned, and groups that end by it.
+use Rattle.std.specs.Prelude.{◌≡◌, ◌≢◌, ◌⊎◌, ℕ, ◌+◌, ◌*◌, ◌%◌, ◌^◌, ◌<◌, ◌≤◌, ◌∷◌, ◌++◌, ◌↔◌, [], Bool, Contains, IsTrue, List, None, Some, true, false, slice_index}
+use Rattle.ng_class.specs.Class.{units_of}
+use Rattle.ng_class.specs.Mask.{FillsGroup}
+use Rattle.ng_class.specs.Slot.{stride_of}
+use Rattle.ng_lists.specs.Rings.{RingTable, IsListed}
+use Rattle.ng_mask.specs.Fetches.{Captures, OfGroup}
+use Rattle.ng_policy.specs.Bounce.{Bounces, IsBouncing}
+use Rattle.ng_policy.specs.declared.ask.Spare.{Spare}
+use Rattle.ng_view.specs.LockSteps.{outside}
+use Rattle.ng_view.specs.Lists.{Among, find}
+use Rattle.ng_view.specs.declared.view.Group.{Group}
+use Rattle.ng_view.specs.declared.view.Held.{Held}
+use Rattle.ng_view.specs.declared.view.View.{View}
+use Rattle.ng_serve.specs.declared.group.LiveGroup.{LiveGroup}
+use Rattle.ng_ledger.specs.Groups.{IsUnborn}
+use Rattle.ng_ledger.specs.Metas.{IsBlankMeta}
+use Rattle.ng_ledger.specs.Standing.{InHand, Ledger}
+use Rattle.ng_group.specs.States.{State}
+
+-- one slot is in the seat, without a block: that of an index in a live group
+pub record HasReturned (v : View) (meta index : ℕ) : Type 0 where
+  pub group : Group
+  pub there : Among group v.desk.groups
+  pub of_meta : group.meta ≡ meta
+  pub within : index ≤ group.last
+  pub slot : Held
+  pub held : v.held ≡ slot ∷ []
+  pub of_group : slot.place.group ≡ group
+  pub of_index : slot.place.index ≡ index
+  pub bare : slot.block ≡ None
+
+-- every slot of a live group is in the seat, and no others; and both of its masks are noted as 0
+pub record HasWhole (v : View) (meta : ℕ) : Type 0 where
+  pub group : Group
+  pub there : Among group v.desk.groups
+  pub of_meta : group.meta ≡ meta
+  pub each : (i : ℕ) → i ≤ group.last → (h : Held) × (find meta i v.held ≡ Some h)
+  pub only : outside meta v.held ≡ []
+  pub no_avail : Among meta v.desk.zero_avail
+  pub no_freed : Among meta v.desk.zero_freed
+
+-- what the rules are asked of a group whose slots are all free
+pub record IsSpare {M P : Type 0} (s : State M P) (meta : ℕ) (found : LiveGroup) (spare : Spare) : Type 0 where
+  pub class_is : spare.class ≡ found.class
+  pub slots_is : spare.slots ≡ found.last + 1
+  pub usage_is : spare.usage ≡ slice_index s.usage found.class
+  pub alone_is : IsTrue spare.alone ↔ Contains s.rings.rings (meta ∷ [])
+  pub bouncing_is : IsTrue spare.bouncing ↔ IsBouncing s.bounces found.class
+
+-- the group may go without the rules: it is one block, or its stride is below its class size, or it is nested
+abbrev pub IsLoose : LiveGroup → Type 0
+IsLoose found = (found.class ≡ 63) ⊎ ((stride_of found.class found.last found.maplen < 16 * units_of found.class) ⊎ (found.maplen ≡ 0))
+
+-- the group may go, where keeps says what the rules may answer: it is loose, or the rules don't keep it
+abbrev pub MayGo : {M P : Type 0} → (Spare → Bool → Type 0) → State M P → ℕ → LiveGroup → Type 0
+MayGo keeps s meta found = IsLoose found ⊎ ((spare : Spare) × IsSpare s meta found spare × keeps spare false)
+
+-- the group stays: it isn't loose, and the rules keep it
+abbrev pub IsKept : {M P : Type 0} → (Spare → Bool → Type 0) → State M P → ℕ → LiveGroup → Type 0
+IsKept keeps s meta found = (¬ IsLoose found) × ((spare : Spare) × IsSpare s meta found spare × keeps spare true)
+
+-- the masks of a group were read: freed, and then avail
+pub record ReadsBoth (v : View) (meta freed avail : ℕ) (w : View) : Type 0 where
+  pub first : ℕ
+  pub second : ℕ
+  pub freed_is : freed ≡ first % 2 ^ 32
+  pub avail_is : avail ≡ second % 2 ^ 32
+  pub readings : w.readings ≡ (v.readings ++ (meta + 28, first) ∷ []) ++ (meta + 24, second) ∷ []
+
+-- the slot of that index was returned to a live group whose numbers are found. Its masks were read; where they and the
+-- slot fill the group, and it may go, both were captured, and the answer is whether the captured masks and the slot fill
+-- it. Else the slot is in a mask again
+pub record TakesWhole {M P : Type 0} (keeps : Spare → Bool → Type 0) (before : State M P) (meta index : ℕ) (found : LiveGroup) (answer : Bool) (after : View) : Type 0 where
+  pub freed : ℕ
+  pub avail : ℕ
+  pub between : View
+  pub reads : ReadsBoth before.seat meta freed avail between
+  pub ends : (FillsGroup avail freed index found.last × MayGo keeps before meta found
+        × ((captured_avail : ℕ) × (captured_freed : ℕ) × (w : View) × Captures between meta captured_avail captured_freed w
+            × (IsTrue answer ↔ FillsGroup captured_avail captured_freed index found.last)))
+      ⊎ ((answer ≡ false) × ((¬ FillsGroup avail freed index found.last) ⊎ IsKept keeps before meta found))
+
+-- the meta of a group that ended has come in hand, with its cells known to be 0; the others in hand are the same
+pub record ComesInHand (meta : ℕ) (before after : Ledger) : Type 0 where
+  pub unborn : IsUnborn after.seat.desk.groups meta
+  pub here : InHand after meta
+  pub clear : IsBlankMeta after.seat.desk.cells meta
+  pub none_more : (m : ℕ) → m ≢ meta → InHand after m → InHand before m
+  pub none_less : (m : ℕ) → InHand before m → InHand after m
+  pub blank : (m : ℕ) → InHand before m → IsBlankMeta before.seat.desk.cells m → IsBlankMeta after.seat.desk.cells m
+
+-- the group of that meta, where it is live, is of a class above this one
+abbrev pub IsAbove : ℕ → View → ℕ → Type 0
+IsAbove class v meta = (g : Group) → Among g v.desk.groups → g.meta ≡ meta → class + 1 < g.tag

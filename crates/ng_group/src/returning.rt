@@ -1,0 +1,144 @@
+// Slots returned under the lock.
+ghost use Rattle.std.specs.Prelude.{◌≡◌, ◌+◌, ◌*◌, ◌<◌, ◌≤◌, ◌↔◌, [], IsTrue, true, false};
+ghost use Rattle.ng_meta.specs.Place.{IsMetaPlace};
+ghost use Rattle.ng_policy.specs.Ask.{SpareInRange};
+ghost use Rattle.ng_lock_moves.specs.Fetches.{HasGroup};
+ghost use Rattle.ng_mask.specs.Fetches.{OfGroup};
+ghost use Rattle.ng_view.specs.Slots.{IsPlain};
+ghost use Rattle.ng_serve.specs.Groups.{Describes};
+ghost use Rattle.ng_ledger.specs.Standing.{KeepsHand};
+ghost use Rattle.ng_group.specs.Returning.{HasReturned, HasWhole, IsKept, IsSpare, MayGo, TakesWhole};
+ghost use Rattle.ng_group.specs.Serving.{OnlyRing};
+ghost use Rattle.ng_group.specs.States.{Working, ledger_of};
+ghost use Rattle.ng_group.specs.Steps.{GoesOn, IsCalm};
+
+use crate::works::Works;
+use ng_class::{LONE, UNIT, all_bits, stride, units};
+use ng_mapper::Mapper;
+use ng_mask::capture;
+use ng_meta::mask_of;
+use ng_policy::{Rules, Spare};
+use ng_serve::{LiveGroup, group_of, put_captured, put_slot};
+use ng_space::{Name, Space};
+
+// Where a meta has its masks.
+const AVAIL: u64 = 24;
+
+const FREED: u64 = 28;
+
+impl<N: Name, M: Mapper, P: Rules> Works<N, M, P> {
+    /// Returns the slot in the seat to its group, whose numbers are given. The group is torn down where all of its slots
+    /// are back then and it may go, and so may be the one around it.
+    pub(crate) fn seat_return(
+        &mut self,
+        space: &Space<N>,
+        meta: u64,
+        index: u32,
+        group: &LiveGroup,
+    )
+        requires working { Working N.start M.span M.runs M.refused self.old }
+        requires slot { HasReturned self.old.seat meta index }
+        requires group { OfGroup self.old.seat meta (Describes group.now) }
+        ensures working { Working N.start M.span M.runs M.refused self.new }
+        ensures on { GoesOn self.old.seat self.new.seat }
+        ensures hand { KeepsHand (ledger_of self.old) (ledger_of self.new) }
+        ensures calm { IsCalm self.old.seat self.new.seat (M.refused self.old.mapper) (M.refused self.new.mapper) }
+        ensures idle { self.new.seat.held ≡ [] }
+        ensures rules { self.new.rules ≡ self.old.rules }
+    {
+        if !self.take_whole(space, meta, index, group) {
+            return;
+        }
+        if let Some((parent, place)) = self.end_group(space, meta, group) {
+            let carrying = group_of(space, &mut self.seat, parent);
+            self.seat_return(space, parent, place, &carrying);
+        }
+        self.stock.put(meta);
+    }
+
+    // Puts the slot in the seat back into its group; or, where the group has all of its slots then and may go, takes
+    // them all into the seat, and answers so.
+    fn take_whole(
+        &mut self,
+        space: &Space<N>,
+        meta: u64,
+        index: u32,
+        group: &LiveGroup,
+    ) -> bool
+        requires working { Working N.start M.span M.runs M.refused self.old }
+        requires slot { HasReturned self.old.seat meta index }
+        requires group { OfGroup self.old.seat meta (Describes group.now) }
+        ensures working { Working N.start M.span M.runs M.refused self.new }
+        ensures only { OnlyRing group.now.class self.old self.new }
+        ensures whole { IsTrue result → HasWhole self.new.seat meta }
+        ensures idle { result ≡ false → self.new.seat.held ≡ [] }
+        ensures takes { TakesWhole (P.keep_gives self.old.rules) self.old meta index group.now result self.new.seat }
+    {
+        let freed = mask_of(space.load_seat(&mut self.seat, meta + FREED));
+        let avail = mask_of(space.load_seat(&mut self.seat, meta + AVAIL));
+        let all = all_bits(group.last);
+        let bit = 1u32 << index;
+        if freed | avail | bit != all || !self.may_go(meta, group) {
+            self.put_back(space, meta, index, group.class);
+            return false;
+        }
+        let masks = capture(space, &mut self.seat, meta);
+        let is_whole = masks.0 | masks.1 | bit == all;
+        if !is_whole {
+            put_captured(space, &mut self.seat, meta, masks, index);
+        }
+        is_whole
+    }
+
+    // Whether a group may be torn down once all of its slots are back: it is one block, or has one slot of less than its
+    // class, or is nested, or the rules don't keep it.
+    fn may_go(&self, meta: u64, group: &LiveGroup) -> bool
+        requires working { Working N.start M.span M.runs M.refused self.now }
+        requires live { HasGroup self.now.seat meta }
+        requires group { OfGroup self.now.seat meta (Describes group.now) }
+        ensures goes { result ≡ true → MayGo (P.keep_gives self.now.rules) self.now meta group.now }
+        ensures stays { result ≡ false → IsKept (P.keep_gives self.now.rules) self.now meta group.now }
+    {
+        group.class == LONE
+            || stride(group.class, group.last, group.maplen) < UNIT * units(group.class)
+            || group.maplen == 0
+            || !self.rules.keep(self.spare(meta, group))
+    }
+
+    // What the rules are asked of a group whose slots are all free.
+    fn spare(&self, meta: u64, group: &LiveGroup) -> Spare
+        requires working { Working N.start M.span M.runs M.refused self.now }
+        requires live { HasGroup self.now.seat meta }
+        requires group { OfGroup self.now.seat meta (Describes group.now) }
+        requires class { group.now.class < 48 }
+        ensures range { SpareInRange result }
+        ensures spare { IsSpare self.now meta group.now result }
+    {
+        let usage = &self.usage;
+        Spare {
+            class: group.class,
+            slots: group.last + 1,
+            usage: usage[group.class as usize],
+            alone: self.rings.has(meta) && self.rings.alone(meta),
+            bouncing: self.bounce.bouncing(group.class),
+        }
+    }
+
+    // Sets the slot's bit in the freed mask of its group, which comes into its ring where it isn't there.
+    fn put_back(&mut self, space: &Space<N>, meta: u64, index: u32, class: u32)
+        requires working { Working N.start M.span M.runs M.refused self.old }
+        requires slot { HasReturned self.old.seat meta index }
+        requires class { OfGroup self.old.seat meta (λ g. g.tag ≡ class + 1) }
+        requires plain { OfGroup self.old.seat meta IsPlain }
+        ensures working { Working N.start M.span M.runs M.refused self.new }
+        ensures only { OnlyRing class self.old self.new }
+        ensures bounces { self.new.bounces ≡ self.old.bounces }
+        ensures idle { self.new.seat.held ≡ [] }
+    {
+        if !self.rings.has(meta) {
+            space.note_ring(&mut self.seat, meta, true);
+            self.rings.enqueue(class, meta);
+        }
+        put_slot(space, &mut self.seat, meta, index);
+    }
+}
