@@ -87,6 +87,7 @@ impl<N: Name, M: Mapper, P: Rules> Works<N, M, P> {
         ensures served { IfSome result (λ slot. HasServed class bytes self.new.seat slot.0 slot.1) }
         ensures none { IfNone result (FindsNoSlot class self.old self.new) }
     {
+        self.rings.stand_once();
         let first = self.rings.first(class)?;
         match pop_core(space, &mut self.seat, first) {
             Some(index) => Some((first, index)),
@@ -95,13 +96,7 @@ impl<N: Name, M: Mapper, P: Rules> Works<N, M, P> {
     }
 
     // Takes a freed slot out of a group of the ring, whose first group has no slot available.
-    fn refill(
-        &mut self,
-        space: &Space<N>,
-        class: u32,
-        bytes: u64,
-        first: u64,
-    ) -> Option<(u64, u32)>
+    fn refill(&mut self, space: &Space<N>, class: u32, bytes: u64, first: u64) -> Option<(u64, u32)>
         requires class { class < 48 }
         requires bytes { bytes + 4 ≤ 16 * units_of class }
         requires first { slice_get (ring_of self.old.rings class) 0 ≡ Some first }
@@ -132,6 +127,7 @@ impl<N: Name, M: Mapper, P: Rules> Works<N, M, P> {
         ensures none { IfNone result (ring_of self.old.rings class ≡ first ∷ []) }
         ensures empty { IfNone result (ring_of self.new.rings class ≡ []) }
     {
+        self.rings.stand_once();
         if space.note_ring(&mut self.seat, first, false) != 0 {
             return Some(self.rings.next(first));
         }
@@ -154,6 +150,7 @@ impl<N: Name, M: Mapper, P: Rules> Works<N, M, P> {
     {
         let Choice { meta, lowest } = choice;
         self.rings.rotate(class, meta);
+        self.rings.stand_once();
         let group = group_of(space, &mut self.seat, meta);
         let active = activate(space, &mut self.seat, &group, lowest);
         let index = take_freed(space, &mut self.seat, meta, active);

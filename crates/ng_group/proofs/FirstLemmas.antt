@@ -1,0 +1,111 @@
+-- The first group of a ring, which stays in it or leaves it.
+use Rattle.std.proofs.Common.{◌≡◌, ◌≢◌, ℕ, ◌+◌, ◌<◌, false, List, [], ◌∷◌, Contains, Some, refl, sym, ap, ◌∙◌, subst, inl, inr}
+use Rattle.std.specs.Prelude.{IfSome, None, Option}
+use Rattle.std.specs.List.{slice_get}
+use Rattle.ng_mapper.specs.Runs as mapper
+use Rattle.ng_mapper.specs.Mapping.{Span}
+use Rattle.ng_mapper.specs.declared.refusals.Refusals.{Refusals}
+use Rattle.ng_lists.specs.Rings.{RingTable, ring_of, without}
+use Rattle.ng_lists.proofs.MemberLemmas.{Contains-first}
+use Rattle.ng_view.specs.Lists.{Among}
+use Rattle.ng_view.specs.LockSteps.{others}
+use Rattle.ng_view.specs.declared.view.Start.{Start}
+use Rattle.ng_view.specs.declared.view.View.{View}
+use Rattle.ng_lock_moves.specs.Notes.{NotesRing}
+use Rattle.ng_ledger.specs.Rings.{AreRinged, IsBare, IsIn, IsTable, left}
+use Rattle.ng_ledger.proofs.BareLemmas.{bare_left}
+use Rattle.ng_ledger.proofs.RingLemmas.{leave}
+use Rattle.ng_ledger.proofs.StepLemmas.{left_changes, left_first}
+use Rattle.ng_ledger.proofs.TableLemmas.{first_is}
+use Rattle.ng_group.specs.Serving.{OnlyRing, StartsWalk}
+use Rattle.ng_group.specs.States.{State, Working}
+use Rattle.ng_group.proofs.WorkingLemmas.{only_works}
+use Rattle.ng_group.proofs.ServingLemmas.{noted_avail, noted_came, noted_held, noted_leaves, noted_search, noted_stays, only_here, only_seat}
+
+-- ---- the first group stays in its ring, or leaves it
+pub record Walks {M P : Type 0} (start : Start) (span : M → Span) (runs : M → List mapper.Run) (refused : M → Refusals) (class first : ℕ) (before after : State M P) : Type 0 where
+  pub working : Working start span runs refused after
+  pub only : OnlyRing class before after
+  pub walk : StartsWalk class first before after
+
+pub first_stays : {M P : Type 0} (start : Start) (span : M → Span) (runs : M → List mapper.Run) (refused : M → Refusals) (s now : State M P) (class first n : ℕ) (w : View)
+    → s ≡ now → IsBare now.seat.desk.zero_avail now.rings class → n ≢ 0 → NotesRing s.seat first false n w → Working start span runs refused now
+    → Walks start span runs refused class first now (record s { seat = w })
+first_stays {M} {P} start span runs refused s now class first n w same bare some notes works =
+    subst (λ (t : State M P). Walks start span runs refused class first t (record s { seat = w })) same
+    (stays (subst (λ (t : State M P). IsBare t.seat.desk.zero_avail t.rings class) (sym same) bare) (subst (λ (t : State M P). Working start span runs refused t) (sym same) works))
+  where
+    kept : (m : ℕ) → Among m s.seat.desk.zero_avail → Among m w.desk.zero_avail
+    kept m = subst (Among m) (sym (noted_avail s.seat w first n notes))
+
+    only : OnlyRing class s (record s { seat = w })
+    only = only_seat class s w (noted_search s.seat w first n notes) (noted_came s.seat w first n notes) (λ k m known apart in' zero. kept m zero)
+
+    ringed : AreRinged s.seat.desk.groups s.seat.desk.listed s.seat.desk.zero_avail s.rings → AreRinged s.seat.desk.groups w.desk.listed w.desk.zero_avail s.rings
+    ringed are =
+        subst (λ (ls : List ℕ). AreRinged s.seat.desk.groups ls w.desk.zero_avail s.rings) (sym (noted_stays s.seat w first n some notes))
+        (subst (λ (z : List ℕ). AreRinged s.seat.desk.groups s.seat.desk.listed z s.rings) (sym (noted_avail s.seat w first n notes)) are)
+
+    stays : IsBare s.seat.desk.zero_avail s.rings class → Working start span runs refused s → Walks start span runs refused class first s (record s { seat = w })
+    stays bare' works' = record {
+      working = only_works start span runs refused class s (record s { seat = w }) only refl (ringed works'.stands.ringed) works';
+      only = only;
+      walk = record {
+        came = noted_came s.seat w first n notes;
+        left = inl refl;
+        bare = λ m in'. kept m (bare' m in');
+        held = noted_held s.seat w first n notes;
+        bounces = refl;
+      };
+    }
+
+pub first_leaves : {M P : Type 0} (start : Start) (span : M → Span) (runs : M → List mapper.Run) (refused : M → Refusals) (s now : State M P) (class first n : ℕ) (w : View) (t : RingTable)
+    → s ≡ now → IsTable s.rings → class < 48 → slice_get (ring_of now.rings class) 0 ≡ Some first → IsBare now.seat.desk.zero_avail now.rings class → n ≡ 0
+    → NotesRing s.seat first false n w → t ≡ left s.rings class first → Working start span runs refused now
+    → Walks start span runs refused class first now (record s { seat = w; rings = t })
+first_leaves {M} {P} start span runs refused s now class first n w t same is known begins bare none noted gone works =
+    subst (λ (t' : RingTable). Walks start span runs refused class first now (record s { seat = w; rings = t' })) (sym gone)
+    (subst (λ (before : State M P). Walks start span runs refused class first before after) same
+    (leaves
+    (subst (λ (u : State M P). slice_get (ring_of u.rings class) 0 ≡ Some first) (sym same) begins)
+    (subst (λ (u : State M P). IsBare u.seat.desk.zero_avail u.rings class) (sym same) bare)
+    (subst (λ (u : State M P). Working start span runs refused u) (sym same) works)))
+  where
+    notes : NotesRing s.seat first false 0 w
+    notes = subst (λ (k : ℕ). NotesRing s.seat first false k w) none noted
+
+    after : State M P
+    after = record s { seat = w; rings = left s.rings class first }
+
+    kept : (m : ℕ) → Among m s.seat.desk.zero_avail → Among m w.desk.zero_avail
+    kept m = subst (Among m) (sym (noted_avail s.seat w first 0 notes))
+
+    only : IsIn s.rings class first → OnlyRing class s after
+    only in' = only_here class s w (left s.rings class first) (without first (ring_of s.rings class)) (noted_search s.seat w first 0 notes) (noted_came s.seat w first 0 notes) (left_changes s.rings class first in') (λ k m below apart there zero. kept m zero)
+
+    ringed : IsIn s.rings class first → Among first s.seat.desk.zero_avail → AreRinged s.seat.desk.groups s.seat.desk.listed s.seat.desk.zero_avail s.rings
+        → AreRinged s.seat.desk.groups w.desk.listed w.desk.zero_avail (left s.rings class first)
+    ringed in' zero are =
+        subst (λ (ls : List ℕ). AreRinged s.seat.desk.groups ls w.desk.zero_avail (left s.rings class first)) (sym (noted_leaves s.seat w first zero notes))
+        (subst (λ (z : List ℕ). AreRinged s.seat.desk.groups (others first s.seat.desk.listed) z (left s.rings class first)) (sym (noted_avail s.seat w first 0 notes))
+        (leave s.seat.desk.groups s.seat.desk.listed s.seat.desk.zero_avail s.rings class first is in' are))
+
+    leaves : slice_get (ring_of s.rings class) 0 ≡ Some first → IsBare s.seat.desk.zero_avail s.rings class → Working start span runs refused s → Walks start span runs refused class first s after
+    leaves begins' bare' works' =
+        let in' : IsIn s.rings class first = Contains-first (ring_of s.rings class) first (sym begins') in
+        record {
+          working = only_works start span runs refused class s after (only in') refl (ringed in' (bare' first in') works'.stands.ringed) works';
+          only = only in';
+          walk = record {
+            came = record { words = (first + 28, 0) ∷ []; readings = ap (λ (u : View). u.readings) notes.view };
+            left = inr (first_is (ring_of s.rings class) first begins' ∙ ap (λ (xs : List ℕ). first ∷ xs) (sym (left_first s.rings class first begins')), inl refl);
+            bare = λ m there. kept m (bare_left s.seat.desk.groups s.seat.desk.listed s.seat.desk.zero_avail s.rings class first is begins' works'.stands.ringed m there);
+            held = noted_held s.seat w first 0 notes;
+            bounces = refl;
+          };
+        }
+
+-- the first of a ring, if there is one, is in it
+pub some_first : (found : Option ℕ) (ring : List ℕ) → found ≡ slice_get ring 0 → IfSome found (λ m. Contains ring m)
+some_first None ring is = tt
+some_first (Some m) ring is = Contains-first ring m is

@@ -1,0 +1,56 @@
+use Rattle.std.proofs.Common.{ℕ, [], ◌<◌, length, sym, subst, arith}
+use Rattle.ng_lists.specs.Rings.{ring_of}
+use Rattle.ng_lists.proofs.MemberLemmas.{Contains-first, Contains-next_in}
+use Rattle.ng_ledger.specs.Rings.{IsIn, IsTable}
+use Rattle.ng_ledger.proofs.TableLemmas.{in_listed}
+use Rattle.ng_group.proofs.FirstLemmas.{first_leaves, first_stays, some_first}
+use Rattle.ng_group.proofs.ServingLemmas.{in_at, live_at}
+use Rattle.ng_group.proofs.works.Works.leave_if_bare.Given.{Over}
+use Rattle.ng_group.proofs.works.Works.leave_if_bare.Goals.{After-first}
+use Rattle.ng_group.proofs.works.Works.leave_if_bare.Goals as goal
+
+pub note_ring-requires-clause-live : goal.note_ring-requires-clause-live
+note_ring-requires-clause-live g c =
+    live_at g.N.Name.start g.M.Mapper.span g.M.Mapper.runs g.M.Mapper.refused _ _ c.args.class c.args.first c.self.view_is c.requires.working c.requires.class (Contains-first (ring_of c.args.self.now.rings c.args.class) c.args.first (sym c.requires.first))
+
+pub next-requires : goal.next-requires
+next-requires g c = record {
+  listed = in_listed c.self.inside.rings c.args.class c.args.first (in_at _ _ c.args.class c.args.first c.self.view_is c.requires.first);
+}
+
+pub returns-then-note_ring-ne0-clause-working : goal.returns-then-note_ring-ne0-clause-working
+returns-then-note_ring-ne0-clause-working g c =
+    (first_stays g.N.Name.start g.M.Mapper.span g.M.Mapper.runs g.M.Mapper.refused _ _ c.args.class c.args.first c.note_ring.result c.note_ring.new.seat c.self.view_is c.requires.bare c.if-note_ring-ne0.true c.note_ring.ensures c.requires.working).working
+
+pub returns-then-note_ring-ne0-clause-walk : goal.returns-then-note_ring-ne0-clause-walk
+returns-then-note_ring-ne0-clause-walk g c =
+    (first_stays g.N.Name.start g.M.Mapper.span g.M.Mapper.runs g.M.Mapper.refused _ _ c.args.class c.args.first c.note_ring.result c.note_ring.new.seat c.self.view_is c.requires.bare c.if-note_ring-ne0.true c.note_ring.ensures c.requires.working).walk
+
+pub returns-then-note_ring-ne0-clause-start : goal.returns-then-note_ring-ne0-clause-start
+returns-then-note_ring-ne0-clause-start g c =
+    let in' : IsIn c.self.inside.rings c.args.class c.args.first = in_at _ _ c.args.class c.args.first c.self.view_is c.requires.first in
+    let known : c.args.class < length c.self.inside.rings.rings = (let l = c.stand_once.ensures.classes in let k = c.requires.class in omega arith) in
+    subst (λ (m : ℕ). IsIn c.self.inside.rings c.args.class m) (sym (c.next.ensures.next c.args.class [] known in')) (Contains-next_in (ring_of c.self.inside.rings c.args.class) c.args.first in')
+
+pub dequeue-requires-clause-member : goal.dequeue-requires-clause-member
+dequeue-requires-clause-member g c =
+    in_at _ _ c.args.class c.args.first c.self.view_is c.requires.first
+
+table : (g : Over) (c : After-first g) → IsTable c.self.inside.rings
+table g c = record {
+  classes = c.stand_once.ensures.classes;
+  places = c.stand_once.ensures.places;
+  once = c.stand_once.ensures.once;
+  apart = c.stand_once.ensures.apart;
+}
+
+pub returns-clause-working : goal.returns-clause-working
+returns-clause-working g c =
+    (first_leaves g.N.Name.start g.M.Mapper.span g.M.Mapper.runs g.M.Mapper.refused _ _ c.args.class c.args.first c.note_ring.result c.note_ring.new.seat c.dequeue.new.self c.self.view_is (table g c) c.requires.class c.requires.first c.requires.bare c.if-note_ring-ne0.false c.note_ring.ensures c.dequeue.ensures.removed c.requires.working).working
+
+pub returns-clause-walk : goal.returns-clause-walk
+returns-clause-walk g c =
+    (first_leaves g.N.Name.start g.M.Mapper.span g.M.Mapper.runs g.M.Mapper.refused _ _ c.args.class c.args.first c.note_ring.result c.note_ring.new.seat c.dequeue.new.self c.self.view_is (table g c) c.requires.class c.requires.first c.requires.bare c.if-note_ring-ne0.false c.note_ring.ensures c.dequeue.ensures.removed c.requires.working).walk
+
+pub returns-clause-start : goal.returns-clause-start
+returns-clause-start g c = some_first c.first.result (ring_of c.dequeue.new.self c.args.class) c.first.ensures.first

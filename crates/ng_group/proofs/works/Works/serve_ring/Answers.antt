@@ -1,0 +1,55 @@
+use Rattle.std.proofs.Common.{◌≡◌, Some, sym, subst}
+use Rattle.std.specs.List.{slice_get}
+use Rattle.ng_lists.specs.Rings.{ring_of}
+use Rattle.ng_lists.proofs.MemberLemmas.{Contains-first}
+use Rattle.ng_group.specs.States.{State}
+use Rattle.ng_group.proofs.GrowLemmas.{lowest_serves, none_grows, passes}
+use Rattle.ng_group.proofs.RefillLemmas.{if_none, no_slot, none_bare}
+use Rattle.ng_group.proofs.ServingLemmas.{live_at}
+use Rattle.ng_group.proofs.WorkingLemmas.{only_then}
+use Rattle.ng_group.proofs.works.Works.serve_ring.Goals as goal
+
+pub pop_core-requires-clause-live : goal.pop_core-requires-clause-live
+pop_core-requires-clause-live g c =
+    let begins : slice_get (ring_of c.args.self.now.rings c.args.class) 0 ≡ Some c.in_ok-first.first =
+    subst (λ (s : State g.row.M.Denot g.row.P.Denot). slice_get (ring_of s.rings c.args.class) 0 ≡ Some c.in_ok-first.first) c.self.view_is (sym c.in_ok-first.ensures.first) in
+    live_at g.N.Name.start g.M.Mapper.span g.M.Mapper.runs g.M.Mapper.refused _ _ c.args.class c.in_ok-first.first c.self.view_is c.requires.working c.requires.class (Contains-first (ring_of c.args.self.now.rings c.args.class) c.in_ok-first.first (sym begins))
+
+pub refill-requires-clause-working : goal.refill-requires-clause-working
+refill-requires-clause-working g c =
+    (passes g.N.Name.start g.M.Mapper.span g.M.Mapper.runs g.M.Mapper.refused _ _ c.args.class c.pop_core.new.seat c.self.view_is (none_grows c.self.inside.seat c.pop_core.new.seat c.in_ok-first.first c.in-None.ensures.none) c.requires.working).working
+
+pub refill-requires-clause-bare : goal.refill-requires-clause-bare
+refill-requires-clause-bare g c =
+    let begins : slice_get (ring_of c.args.self.now.rings c.args.class) 0 ≡ Some c.in_ok-first.first =
+    subst (λ (s : State g.row.M.Denot g.row.P.Denot). slice_get (ring_of s.rings c.args.class) 0 ≡ Some c.in_ok-first.first) c.self.view_is (sym c.in_ok-first.ensures.first) in
+    none_bare g.N.Name.start g.M.Mapper.span g.M.Mapper.runs g.M.Mapper.refused _ _ c.args.class c.in_ok-first.first c.pop_core.new.seat c.self.view_is c.requires.class begins c.in-None.ensures.none c.requires.working
+
+pub returns-in-Some-clause-working : goal.returns-in-Some-clause-working
+returns-in-Some-clause-working g c =
+    let begins : slice_get (ring_of c.args.self.now.rings c.args.class) 0 ≡ Some c.in_ok-first.first =
+    subst (λ (s : State g.row.M.Denot g.row.P.Denot). slice_get (ring_of s.rings c.args.class) 0 ≡ Some c.in_ok-first.first) c.self.view_is (sym c.in_ok-first.ensures.first) in
+    (lowest_serves g.N.Name.start g.M.Mapper.span g.M.Mapper.runs g.M.Mapper.refused _ _ c.args.class c.args.bytes c.in_ok-first.first c.in-Some.index c.pop_core.new.seat c.self.view_is c.requires.class c.requires.bytes begins c.requires.idle c.in-Some.ensures.taken c.requires.working).working
+
+pub returns-in-Some-clause-only : goal.returns-in-Some-clause-only
+returns-in-Some-clause-only g c =
+    let begins : slice_get (ring_of c.args.self.now.rings c.args.class) 0 ≡ Some c.in_ok-first.first =
+    subst (λ (s : State g.row.M.Denot g.row.P.Denot). slice_get (ring_of s.rings c.args.class) 0 ≡ Some c.in_ok-first.first) c.self.view_is (sym c.in_ok-first.ensures.first) in
+    (lowest_serves g.N.Name.start g.M.Mapper.span g.M.Mapper.runs g.M.Mapper.refused _ _ c.args.class c.args.bytes c.in_ok-first.first c.in-Some.index c.pop_core.new.seat c.self.view_is c.requires.class c.requires.bytes begins c.requires.idle c.in-Some.ensures.taken c.requires.working).only
+
+pub returns-in-Some-clause-served : goal.returns-in-Some-clause-served
+returns-in-Some-clause-served g c =
+    let begins : slice_get (ring_of c.args.self.now.rings c.args.class) 0 ≡ Some c.in_ok-first.first =
+    subst (λ (s : State g.row.M.Denot g.row.P.Denot). slice_get (ring_of s.rings c.args.class) 0 ≡ Some c.in_ok-first.first) c.self.view_is (sym c.in_ok-first.ensures.first) in
+    (lowest_serves g.N.Name.start g.M.Mapper.span g.M.Mapper.runs g.M.Mapper.refused _ _ c.args.class c.args.bytes c.in_ok-first.first c.in-Some.index c.pop_core.new.seat c.self.view_is c.requires.class c.requires.bytes begins c.requires.idle c.in-Some.ensures.taken c.requires.working).served
+
+pub returns-in-None-clause-only : goal.returns-in-None-clause-only
+returns-in-None-clause-only g c =
+    only_then c.args.class c.args.self.now _ c.refill.new.self
+    (passes g.N.Name.start g.M.Mapper.span g.M.Mapper.runs g.M.Mapper.refused _ _ c.args.class c.pop_core.new.seat c.self.view_is (none_grows c.self.inside.seat c.pop_core.new.seat c.in_ok-first.first c.in-None.ensures.none) c.requires.working).only
+    c.refill.ensures.only
+
+pub returns-in-None-clause-none : goal.returns-in-None-clause-none
+returns-in-None-clause-none g c =
+    if_none c.refill.result c.refill.ensures.none
+    (λ freed. no_slot _ c.args.self.now c.refill.new.self c.args.class c.in_ok-first.first c.pop_core.new.seat c.self.view_is c.in-None.ensures.none freed)
