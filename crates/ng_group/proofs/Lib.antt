@@ -4,3 +4,6 @@ pub mod FirstLemmas
 pub mod TakeLemmas
 pub mod GrowLemmas
 pub mod RefillLemmas
+pub mod BuildingLemmas
+pub mod MappingLemmas
+pub mod NestingLemmas

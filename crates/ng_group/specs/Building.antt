@@ -1,13 +1,11 @@
 -- Groups that are built.
-use Rattle.std.specs.Prelude.{◌≡◌, ◌≢◌, ℕ, ◌+◌, ◌%◌, ◌<◌, ◌↔◌, ◌&&◌, ◌==◌, ◌∷◌, ◌++◌, [], IsTrue, List, if◌then◌else◌, nat_lt, slice_index, slice_set, Contains}
-use Rattle.ng_lists.specs.Rings.{RingTable, ring_of, rotated, with_ring}
+use Rattle.std.specs.Prelude.{◌≡◌, ℕ, ◌+◌, ◌%◌, ◌↔◌, ◌&&◌, ◌==◌, ◌∷◌, [], IsTrue, List, if◌then◌else◌, nat_lt, slice_index, slice_set, Contains}
 use Rattle.ng_policy.specs.Bounce.{Bounces, IsBouncing}
 use Rattle.ng_policy.specs.declared.ask.Ask.{Ask}
 use Rattle.ng_shelf.specs.Stock.{free_of}
-use Rattle.ng_view.specs.Layouts.{IsNested}
-use Rattle.ng_view.specs.Lists.{Among}
 use Rattle.ng_view.specs.Steps.{in_motion}
 use Rattle.ng_view.specs.declared.view.Group.{Group}
+use Rattle.ng_view.specs.declared.view.Place.{Place}
 use Rattle.ng_view.specs.declared.view.Start.{Start}
 use Rattle.ng_ledger.specs.Metas.{IsFreeMeta}
 use Rattle.ng_ledger.specs.Standing.{Ledger}
@@ -23,14 +21,6 @@ pub record IsAsk (usage : List ℕ) (bounces : Bounces) (class : ℕ) (ask : Ask
   pub usage_is : ask.usage ≡ slice_index usage class
   pub near_is : ask.near ≡ near_of usage class
   pub bouncing_is : IsTrue ask.bouncing ↔ IsBouncing bounces class
-
--- a meta is in the ring of a class, before the others
-abbrev pub with_last : RingTable → ℕ → ℕ → RingTable
-with_last table class meta = with_ring table class (ring_of table class ++ meta ∷ [])
-
-abbrev pub with_first : RingTable → ℕ → ℕ → RingTable
-with_first table class meta =
-    with_ring (with_last table class meta) class (rotated meta (ring_of (with_last table class meta) class))
 
 -- the slots of a class are so many more
 abbrev pub with_used : List ℕ → ℕ → ℕ → List ℕ
@@ -51,9 +41,20 @@ pub record HasBuilt {M P : Type 0} (meta class slots : ℕ) (before after : Stat
   pub groups : after.seat.desk.groups ≡ group ∷ before.seat.desk.groups
   pub motion : after.seat.held ≡ in_motion group 0 ∷ []
 
--- of the rings only that of the class has changed, by its new first meta; the bounces and all else of the books as given
-pub record OnlyFirst {M P : Type 0} (class meta : ℕ) (before after : State M P) : Type 0 where
-  pub rings : after.rings ≡ with_first before.rings class meta
-  pub stock : after.stock ≡ before.stock
-  pub zero : (m : ℕ) → Among m before.seat.desk.zero_avail → Among m after.seat.desk.zero_avail
-  pub excuses : after.seat.excuses ≡ before.seat.excuses
+-- the slot of that index in the group of parent carries the group of meta
+pub record IsCarriedBy {M P : Type 0} (meta parent index : ℕ) (before after : State M P) : Type 0 where
+  pub place : Place
+  pub of_parent : place.group.meta ≡ parent
+  pub of_index : place.index ≡ index
+  pub nests : after.seat.desk.layout.nests ≡ record { place = place; child = meta } ∷ before.seat.desk.layout.nests
+
+-- of the books all is as before, and of the seat all but its excuses, its readings and the number of the last refusal
+pub record LeavesAll {M P : Type 0} (before after : State M P) : Type 0 where
+  pub seat : after.seat ≡ record before.seat {
+    excuses = after.seat.excuses;
+    readings = after.seat.readings;
+    desk = record before.seat.desk { refusals = after.seat.desk.refusals };
+  }
+  pub rings : after.rings ≡ before.rings
+  pub parents : after.parents ≡ before.parents
+  pub usage : after.usage ≡ before.usage

@@ -1,13 +1,14 @@
 // New groups, on runs of their own and in slots of others.
-ghost use Rattle.std.specs.Prelude.{◌≡◌, ℕ, ◌+◌, ◌*◌, ◌<◌, ◌≤◌, ◌^◌, [], IfErr, OnErr, OnOk, slice_index};
+ghost use Rattle.std.specs.Prelude.{◌≡◌, ℕ, ◌+◌, ◌*◌, ◌<◌, ◌≤◌, ◌^◌, ◌∷◌, [], IfErr, OnErr, OnOk, slice_index};
 ghost use Rattle.ng_class.specs.Class.{IsLeastClass, units_of};
 ghost use Rattle.ng_meta.specs.Place.{IsMetaPlace};
 ghost use Rattle.ng_policy.specs.Ask.{AskInRange, IsCount};
-ghost use Rattle.ng_ledger.specs.Rings.{IsBare};
+ghost use Rattle.ng_ledger.specs.Rings.{IsBare, entered_first};
 ghost use Rattle.ng_ledger.specs.Standing.{KeepsHand};
 ghost use Rattle.ng_lists.specs.Rings.{IsListed};
+ghost use Rattle.ng_lock_moves.specs.Notes.{plain_run};
 ghost use Rattle.ng_shelf.specs.Shape.{IsNestedSize, shape_of};
-ghost use Rattle.ng_group.specs.Building.{HasBuilt, HasInHand, with_first, with_used};
+ghost use Rattle.ng_group.specs.Building.{HasBuilt, HasInHand, IsCarriedBy, LeavesAll, with_used};
 ghost use Rattle.ng_group.specs.Serving.{HasServed};
 ghost use Rattle.ng_group.specs.States.{Working, ledger_of};
 ghost use Rattle.ng_group.specs.Steps.{GoesOn, HandsOver, IsCalm, IsRefused, LeavesBelow};
@@ -54,9 +55,14 @@ impl<N: Name, M: Mapper, P: Rules> Works<N, M, P> {
         ensures kept { OnErr result (KeepsHand (ledger_of self.old) (ledger_of self.new)) }
         ensures refused { IfErr result (λ number. IsRefused number self.old.seat self.new.seat (M.refused self.old.mapper) (M.refused self.new.mapper)) }
         ensures idle { OnErr result (self.new.seat.held ≡ []) }
+        ensures run { OnOk result ((base : ℕ) × (self.new.seat.desk.layout.runs
+            ≡ plain_run base (shape_of ask.now bytes count).pages ∷ self.old.seat.desk.layout.runs)) }
+        ensures asked { OnErr result ((M.refused self.new.mapper).last ≡ (shape_of ask.now bytes count).pages) }
+        ensures left { OnErr result (LeavesAll self.old self.new) }
         ensures stock { self.new.stock ≡ self.old.stock }
         ensures rules { self.new.rules ≡ self.old.rules }
     {
+        self.rings.stand_once();
         let class = ask.class;
         self.bounce.account(class);
         self.bounce.step();
@@ -99,12 +105,14 @@ impl<N: Name, M: Mapper, P: Rules> Works<N, M, P> {
         ensures hand { HandsOver meta (ledger_of self.old) (ledger_of self.new) }
         ensures built { HasBuilt meta class count self.old self.new }
         ensures served { (bytes : ℕ) → bytes + 4 ≤ 16 * units_of class → HasServed class bytes self.new.seat meta 0 }
+        ensures carried { IsCarriedBy meta slot.0 slot.1 self.old self.new }
         ensures excuses { self.new.seat.excuses ≡ self.old.seat.excuses }
         ensures runs { self.new.seat.desk.layout.runs ≡ self.old.seat.desk.layout.runs }
         ensures mapper { self.new.mapper ≡ self.old.mapper }
         ensures stock { self.new.stock ≡ self.old.stock }
         ensures rules { self.new.rules ≡ self.old.rules }
     {
+        self.rings.stand_once();
         let (parent, index) = slot;
         let group = group_of(space, &mut self.seat, parent);
         let carrier = Carrier {
@@ -133,9 +141,11 @@ impl<N: Name, M: Mapper, P: Rules> Works<N, M, P> {
         requires absent { ¬ IsListed self.old.rings meta }
         requires few { slice_index self.old.usage class + slots < 2 ^ 64 }
         ensures { self.new ≡ record self.old {
-            rings = with_first self.old.rings class meta;
-            usage = with_used self.old.usage class slots } }
+          rings = entered_first self.old.rings class meta;
+          usage = with_used self.old.usage class slots;
+        } }
     {
+        self.rings.stand_once();
         let usage = &mut self.usage;
         usage[class as usize] += u64::from(slots);
         self.rings.enqueue(class, meta);
