@@ -6,3 +6,4 @@ pub mod Returning
 pub mod Hands
 pub mod Opening
 pub mod ClassFor
+pub mod Asking

@@ -1,0 +1,110 @@
+-- What a call builds, and when it asks the mapper for pages.
+use Rattle.std.specs.Prelude.{◌≡◌, ◌⊎◌, ℕ, ◌+◌, ◌*◌, ◌<◌, ◌≤◌, ◌∷◌, ◌++◌, [], List, cond, length, slice_index, true, false}
+use Rattle.ng_class.specs.Class.{IsLeastClass, units_of}
+use Rattle.ng_lists.specs.Rings.{ring_of}
+use Rattle.ng_policy.specs.Bounce.{Bounces}
+use Rattle.ng_policy.specs.declared.ask.Ask.{Ask}
+use Rattle.ng_serve.specs.Reads.{IsBareIn}
+use Rattle.ng_shelf.specs.Shape.{IsNestedSize, shape_of}
+use Rattle.ng_shelf.specs.Stock.{free_of}
+use Rattle.ng_view.specs.Lists.{Among, count_of, total_by}
+use Rattle.ng_view.specs.declared.view.Group.{Group}
+use Rattle.ng_view.specs.declared.view.Run.{Run}
+use Rattle.ng_ledger.specs.Rings.{IsIn}
+use Rattle.ng_group.specs.Building.{IsAsk}
+use Rattle.ng_group.specs.States.{State}
+use Rattle.ng_group.specs.Steps.{Came}
+
+-- a group that is wanted: its class, the bytes asked of it, what the rules were asked, and the slots that they want
+pub record Want : Type 0 where
+  pub class : ℕ
+  pub bytes : ℕ
+  pub ask : Ask
+  pub count : ℕ
+
+-- the rules were asked by the core as it stood, and gave that number
+pub record IsAsked {M P : Type 0} (counts : Ask → ℕ → Type 0) (s : State M P) (w : Want) : Type 0 where
+  pub ask_is : IsAsk s.usage s.bounces w.class w.ask
+  pub count_is : counts w.ask w.count
+
+-- the bytes that a slot serves which carries the wanted group
+abbrev pub carried_bytes : Want → ℕ
+carried_bytes w = 16 * units_of w.class * w.count + 12
+
+-- groups are wanted for so many bytes of a class, each but the last to lie in a slot of the next
+abbrev pub IsChain : {M P : Type 0} → (Ask → ℕ → Type 0) → State M P → ℕ → ℕ → List Want → Type 0
+IsChain counts s class bytes [] = Unit {0}
+IsChain counts s class bytes (w ∷ ws) = (w.class ≡ class) × (w.bytes ≡ bytes) × IsAsked counts s w
+    × ((ws ≡ []) ⊎ (IsNestedSize w.class w.count × ((next : ℕ) × IsLeastClass (carried_bytes w) next × IsChain counts s next (carried_bytes w) ws)))
+
+-- and every group in the rings of their classes was read to be bare
+pub record AreWanted {M P : Type 0} (counts : Ask → ℕ → Type 0) (s : State M P) (words : List (ℕ × ℕ)) (class bytes : ℕ) (ws : List Want) : Type 0 where
+  pub chain : IsChain counts s class bytes ws
+  pub bare : (w : Want) → Among w ws → (m : ℕ) → IsIn s.rings w.class m → IsBareIn words m
+
+-- the last of some wanted groups is this
+pub record IsLastWanted {M P : Type 0} (counts : Ask → ℕ → Type 0) (s : State M P) (words : List (ℕ × ℕ)) (class bytes : ℕ) (w : Want) : Type 0 where
+  pub before : List Want
+  pub wanted : AreWanted counts s words class bytes (before ++ w ∷ [])
+
+-- the wanted group gets a run of its own, of so many pages
+pub record WantsRun {M P : Type 0} (counts : Ask → ℕ → Type 0) (s : State M P) (words : List (ℕ × ℕ)) (class bytes pages : ℕ) : Type 0 where
+  pub want : Want
+  pub last : IsLastWanted counts s words class bytes want
+  pub large : ¬ IsNestedSize want.class want.count
+  pub pages_are : pages ≡ (shape_of want.ask want.bytes want.count).pages
+
+-- more groups are wanted than metas were free
+pub record WantsArea {M P : Type 0} (counts : Ask → ℕ → Type 0) (s : State M P) (words : List (ℕ × ℕ)) (class bytes : ℕ) : Type 0 where
+  pub wants : List Want
+  pub wanted : AreWanted counts s words class bytes wants
+  pub few : length (free_of s.stock) < length wants
+
+-- the slots of a wanted group
+pub record HasSlots (w : Want) (g : Group) : Type 0 where
+  pub class_is : g.tag ≡ w.class + 1
+  pub nested : IsNestedSize w.class w.count → g.last + 1 ≡ w.count
+  pub mapped : ¬ IsNestedSize w.class w.count → g.last + 1 ≡ (shape_of w.ask w.bytes w.count).count
+
+-- how many of the runs are areas
+abbrev pub areas : List Run → ℕ
+areas runs = total_by (λ (r : Run). count_of r.area) runs
+
+-- the run was noted, or is an area that was wanted, or one for a wanted group
+abbrev pub IsRunWanted : {M P : Type 0} → (Ask → ℕ → Type 0) → State M P → List (ℕ × ℕ) → ℕ → ℕ → Run → Type 0
+IsRunWanted counts s words class bytes r = Among r s.seat.desk.layout.runs
+    ⊎ ((r.area ≡ true) × (r.pages ≡ 1) × WantsArea counts s words class bytes)
+    ⊎ ((r.area ≡ false) × WantsRun counts s words class bytes r.pages)
+
+-- the group was live, or is a wanted one, with the slots that are due to it
+abbrev pub IsGroupWanted : {M P : Type 0} → (Ask → ℕ → Type 0) → State M P → List (ℕ × ℕ) → ℕ → ℕ → Group → Type 0
+IsGroupWanted counts s words class bytes g = Among g s.seat.desk.groups
+    ⊎ ((w : Want) × IsLastWanted counts s words class bytes w × HasSlots w g)
+
+-- a call for so many bytes of a class built nothing that wasn't wanted, and mapped one area at most
+pub record BuildsWanted {M P : Type 0} (counts : Ask → ℕ → Type 0) (before after : State M P) (class bytes : ℕ) : Type 0 where
+  pub came : Came before.seat after.seat
+  pub runs : (r : Run) → Among r after.seat.desk.layout.runs → IsRunWanted counts before came.words class bytes r
+  pub groups : (g : Group) → Among g after.seat.desk.groups → IsGroupWanted counts before came.words class bytes g
+  pub one_area : areas after.seat.desk.layout.runs ≤ areas before.seat.desk.layout.runs + 1
+
+-- the refused map call was for an area that was wanted, and no area came; or for the run of a wanted group
+pub record RefusedWanted {M P : Type 0} (counts : Ask → ℕ → Type 0) (before after : State M P) (class bytes pages : ℕ) : Type 0 where
+  pub came : Came before.seat after.seat
+  pub cause : ((pages ≡ 1) × (areas after.seat.desk.layout.runs ≡ areas before.seat.desk.layout.runs) × WantsArea counts before came.words class bytes)
+      ⊎ WantsRun counts before came.words class bytes pages
+
+-- the ring is as before, or its first group has left it, which was read to be bare
+abbrev pub IsWalked : List (ℕ × ℕ) → List ℕ → List ℕ → Type 0
+IsWalked words before after = (after ≡ before) ⊎ ((first : ℕ) × (before ≡ first ∷ after) × IsBareIn words first)
+
+-- the groups, the slots that carry and the usage are as before, of each ring the first group may have left, and the runs are
+-- as before but for one new area of one page at most
+pub record LeavesHeap {M P : Type 0} (before after : State M P) : Type 0 where
+  pub came : Came before.seat after.seat
+  pub groups : after.seat.desk.groups ≡ before.seat.desk.groups
+  pub nests : after.seat.desk.layout.nests ≡ before.seat.desk.layout.nests
+  pub usage : after.usage ≡ before.usage
+  pub rings : (k : ℕ) → k < 48 → IsWalked came.words (ring_of before.rings k) (ring_of after.rings k)
+  pub runs : (after.seat.desk.layout.runs ≡ before.seat.desk.layout.runs)
+      ⊎ ((r : Run) × (r.area ≡ true) × (r.pages ≡ 1) × (after.seat.desk.layout.runs ≡ r ∷ before.seat.desk.layout.runs))
