@@ -20,6 +20,7 @@ pub fn pop<N: Name>(space: &Space<N>, hand: &mut Hand<N>, meta: u64, class: u32)
     requires class { class < 48 }
     ensures won { OnWon result (HasSlot hand.new) }
     ensures once { OnWon result (λ slot. AreOnce hand.new.view) }
+    ensures meta { OnWon result (λ slot. slot.meta ≡ meta) }
     ensures cause { HasPopCause hand.old.view meta class result hand.new.view }
     ensures number { hand.new.number ≡ hand.old.number }
     ensures spare { hand.new.spare ≡ hand.old.spare }

@@ -1,5 +1,5 @@
 -- What the words of a live group's meta say of it.
-use Rattle.std.proofs.Common.{◌≡◌, ◌≢◌, ℕ, ◌+◌, ◌*◌, ◌%◌, ◌<◌, ◌≤◌, sym, ap, ◌∙◌, subst, arith}
+use Rattle.std.proofs.Common.{◌≡◌, ◌≢◌, ◌⊎◌, ℕ, ◌+◌, ◌*◌, ◌%◌, ◌<◌, ◌≤◌, sym, ap, ◌∙◌, subst, ⊎_elim, arith}
 use Rattle.ng_meta.specs.Cells.{high_half, joined, low_half}
 use Rattle.ng_meta.specs.Flags.{fields_in}
 use Rattle.ng_meta.specs.declared.flags.Fields.{Fields}
@@ -12,6 +12,7 @@ use Rattle.ng_lock_moves.specs.Fetches.{HasGroup}
 use Rattle.ng_lock_moves.specs.Loads.{IsField, Loads, TellsGroups}
 use Rattle.ng_lock_moves.specs.Stores.{IsActiveIndex, Stores}
 use Rattle.ng_mask.specs.Fetches.{OfGroup}
+use Rattle.ng_space.specs.Placed.{AreOfGroups, HasSlotOf}
 use Rattle.ng_serve.specs.Groups.{AreInSpace, Describes, IsInSpace, ReadsFields, ReadsIndex}
 use Rattle.ng_serve.specs.Reads.{Reads}
 use Rattle.ng_serve.specs.declared.group.LiveGroup.{LiveGroup}
@@ -31,6 +32,13 @@ describes g base flags f at has is = record {
   last = sym has.last ∙ ap (λ (x : Fields). x.last) (sym is);
   maplen = sym has.maplen ∙ ap (λ (x : Fields). x.maplen) (sym is);
 }
+
+-- a slot's group is live
+pub has_group : (v : View) (meta : ℕ) → HasGroup v meta ⊎ HasSlotOf v meta → AreOfGroups v → HasGroup v meta
+has_group v meta live slots = ⊎_elim
+    (λ (has : HasGroup v meta). has)
+    (λ (slot : HasSlotOf v meta). record { group = slot.slot.place.group; there = (slots slot.slot slot.there).there; of_meta = slot.of_meta })
+    live
 
 field_at : (v : View) (meta offset : ℕ) → HasGroup v meta → offset < 40 → offset ≢ 24 → offset ≢ 28 → IsField v (meta + offset)
 field_at v meta offset has below no_avail no_freed = record {

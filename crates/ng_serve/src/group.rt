@@ -1,9 +1,10 @@
 //! What a live group's words say of it, and how far its slots are in use.
-ghost use Rattle.std.specs.Prelude.{◌+◌, ◌<◌, ◌≤◌};
+ghost use Rattle.std.specs.Prelude.{◌⊎◌, ◌+◌, ◌<◌, ◌≤◌};
 ghost use Rattle.ng_meta.specs.Place.{IsMetaPlace};
 ghost use Rattle.ng_lock_moves.specs.Fetches.{HasGroup};
 ghost use Rattle.ng_lock_moves.specs.Stores.{IsActiveIndex};
 ghost use Rattle.ng_mask.specs.Fetches.{OfGroup};
+ghost use Rattle.ng_space.specs.Placed.{AreOfGroups, HasSlotOf};
 ghost use Rattle.ng_serve.specs.Groups.{AreInSpace, Describes, IsRaisedTo, ReadsFields, ReadsIndex};
 ghost use Rattle.ng_serve.specs.Reads.{Reads};
 
@@ -33,6 +34,34 @@ pub struct LiveGroup {
 pub fn group_of<N: Name>(space: &Space<N>, seat: &mut LockSeat<N>, meta: u64) -> LiveGroup
     requires place { IsMetaPlace meta N.start.pages }
     requires live { HasGroup seat.old meta }
+    ensures group { OfGroup seat.old meta (Describes result) }
+    ensures class { result.class < 64 }
+    ensures last { result.last < 32 }
+    ensures loads { ReadsFields seat.old meta seat.new }
+    ensures reads { Reads seat.old seat.new }
+{
+    read_group(space, seat, meta)
+}
+
+/// The same of the meta of a slot that is in the seat, whose group is live for that.
+pub fn group_of_slot<N: Name>(space: &Space<N>, seat: &mut LockSeat<N>, meta: u64) -> LiveGroup
+    requires place { IsMetaPlace meta N.start.pages }
+    requires slot { HasSlotOf seat.old meta }
+    ensures slots { AreOfGroups seat.old }
+    ensures group { OfGroup seat.old meta (Describes result) }
+    ensures class { result.class < 64 }
+    ensures last { result.last < 32 }
+    ensures loads { ReadsFields seat.old meta seat.new }
+    ensures reads { Reads seat.old seat.new }
+{
+    read_group(space, seat, meta)
+}
+
+// The two words, which the seat's notes or one of its slots show to be those of a live group.
+fn read_group<N: Name>(space: &Space<N>, seat: &mut LockSeat<N>, meta: u64) -> LiveGroup
+    requires place { IsMetaPlace meta N.start.pages }
+    requires live { HasGroup seat.old meta ⊎ HasSlotOf seat.old meta }
+    ensures slots { AreOfGroups seat.old }
     ensures group { OfGroup seat.old meta (Describes result) }
     ensures class { result.class < 64 }
     ensures last { result.last < 32 }

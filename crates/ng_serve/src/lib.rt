@@ -8,6 +8,6 @@ mod putting;
 mod taking;
 
 pub use choosing::{Choice, choose};
-pub use group::{LiveGroup, activate, active_index, group_of};
+pub use group::{LiveGroup, activate, active_index, group_of, group_of_slot};
 pub use putting::{put_bits, put_captured, put_slot};
 pub use taking::{stock_freed, take_freed};

@@ -12,6 +12,7 @@ pub mod Holding
 pub mod Locked
 pub mod Fetched
 pub mod Stepped
+pub mod Slotted
 pub mod Lived
 pub mod Annotated
 pub mod Counting

@@ -1,10 +1,11 @@
 -- Where a slot lies, as the rule says of each slot that a seat has.
-use Rattle.std.specs.Prelude.{◌≡◌, ℕ, ◌+◌, ◌-◌, ◌*◌, ◌%◌, ◌<◌, ◌≤◌}
+use Rattle.std.specs.Prelude.{◌≡◌, ℕ, ◌+◌, ◌-◌, ◌*◌, ◌%◌, ◌<◌, ◌≤◌, List}
 use Rattle.ng_class.specs.Slot.{IsGroupClass}
 use Rattle.ng_meta.specs.Place.{IsMetaPlace}
 use Rattle.ng_view.specs.Conditions.{HasFlags}
 use Rattle.ng_view.specs.Lists.{Among, count_of, is_at, total_by}
 use Rattle.ng_view.specs.Places.{reach}
+use Rattle.ng_view.specs.declared.view.Group.{Group}
 use Rattle.ng_view.specs.declared.view.Held.{Held}
 use Rattle.ng_view.specs.declared.view.Place.{Place}
 use Rattle.ng_view.specs.declared.view.Start.{Start}
@@ -39,3 +40,18 @@ pub record IsRead (p : Place) (meta index base flags : ℕ) : Type 0 where
   pub index_is : p.index ≡ index
   pub base_is : p.group.base ≡ base
   pub flags_are : HasFlags p.group flags
+
+-- the place is that of a slot of one of these groups
+pub record IsSlotOf (groups : List Group) (p : Place) : Type 0 where
+  pub there : Among p.group groups
+  pub within : p.index ≤ p.group.last
+
+-- and so is that of each slot in the lock's seat, of its live groups
+abbrev pub AreOfGroups : View → Type 0
+AreOfGroups v = (h : Held) → Among h v.held → IsSlotOf v.desk.groups h.place
+
+-- some slot in the view is of the group of that meta
+pub record HasSlotOf (v : View) (meta : ℕ) : Type 0 where
+  pub slot : Held
+  pub there : Among slot v.held
+  pub of_meta : slot.place.group.meta ≡ meta

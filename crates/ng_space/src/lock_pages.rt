@@ -2,6 +2,7 @@
 ghost use Rattle.std.specs.Prelude.{◌≡◌, ◌*◌, ◌%◌, ◌<◌};
 ghost use Rattle.ng_lock_moves.specs.Loads.{Loads, TellsGroups};
 ghost use Rattle.ng_lock_moves.specs.Stores.{MayStore, Stores};
+ghost use Rattle.ng_space.specs.Placed.{AreOfGroups};
 
 use crate::lock::LockSeat;
 use crate::name::Name;
@@ -16,6 +17,7 @@ impl<N: Name> Space<N> {
         requires inside { addr < 4096 * N.start.pages }
         ensures view { Loads seat.old addr result seat.new }
         ensures told { TellsGroups seat.old addr result }
+        ensures slots { AreOfGroups seat.old }
     {
         self.load_told::<Brand>(&mut seat.seat, addr)
     }
