@@ -7,3 +7,8 @@ pub mod RefillLemmas
 pub mod BuildingLemmas
 pub mod MappingLemmas
 pub mod NestingLemmas
+pub mod ReturningLemmas
+pub mod FillingLemmas
+pub mod PlainLemmas
+pub mod WholeLemmas
+pub mod TakingLemmas

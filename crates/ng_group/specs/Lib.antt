@@ -6,4 +6,8 @@ pub mod Returning
 pub mod Hands
 pub mod Opening
 pub mod ClassFor
+<<<<<<< ours
 pub mod Asking
+=======
+pub mod Filling
+>>>>>>> theirs
