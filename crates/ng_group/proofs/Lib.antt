@@ -12,3 +12,7 @@ pub mod FillingLemmas
 pub mod PlainLemmas
 pub mod WholeLemmas
 pub mod TakingLemmas
+pub mod EndingLemmas
+pub mod EndedLemmas
+pub mod SlotBackLemmas
+pub mod EndGroupLemmas

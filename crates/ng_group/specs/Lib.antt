@@ -6,8 +6,6 @@ pub mod Returning
 pub mod Hands
 pub mod Opening
 pub mod ClassFor
-<<<<<<< ours
 pub mod Asking
-=======
 pub mod Filling
->>>>>>> theirs
+pub mod Ending

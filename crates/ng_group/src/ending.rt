@@ -1,9 +1,12 @@
 // Groups that end.
 ghost use Rattle.std.specs.Prelude.{◌≡◌, ◌+◌, ◌<◌, ◌≤◌, [], Contains, IfNone, IfSome};
-ghost use Rattle.ng_meta.specs.Place.{IsMetaPlace};
 ghost use Rattle.ng_lists.specs.Rings.{IsListed, ring_of};
 ghost use Rattle.ng_mask.specs.Fetches.{OfGroup};
 ghost use Rattle.ng_serve.specs.Groups.{Describes};
+ghost use Rattle.ng_ledger.specs.Rings.{left};
+ghost use Rattle.ng_ledger.specs.Usage.{AreUsed};
+ghost use Rattle.ng_view.specs.LockSteps.{groups_but};
+ghost use Rattle.ng_group.specs.Ending.{EndsGroup};
 ghost use Rattle.ng_group.specs.Returning.{ComesInHand, HasReturned, HasWhole, IsAbove};
 ghost use Rattle.ng_group.specs.Serving.{OnlyRing};
 ghost use Rattle.ng_group.specs.States.{Working, ledger_of};
@@ -40,15 +43,8 @@ impl<N: Name, M: Mapper, P: Rules> Works<N, M, P> {
         ensures idle { IfNone result (self.new.seat.held ≡ []) }
         ensures unmapped { IfNone result (¬ Contains (M.runs self.new.mapper) (group.now.base, group.now.maplen)) }
     {
-        if self.rings.has(meta) {
-            self.leave_ring(space, meta, group.class);
-        }
-        if group.class != LONE {
-            let usage = &mut self.usage;
-            usage[group.class as usize] -= u64::from(group.last) + 1;
-        }
-        space.retire(&mut self.seat, meta);
-        clear_meta(space, &mut self.seat, meta);
+        self.leave_any_ring(space, meta, group.class);
+        self.retire_group(space, meta, group);
         if group.maplen > 0 {
             self.bounce.step();
             self.bounce.stamp(group.class);
@@ -59,6 +55,49 @@ impl<N: Name, M: Mapper, P: Rules> Works<N, M, P> {
         let (parent, index) = self.parents.of(meta);
         clear_head(space, &mut self.seat, parent, index, group.base);
         Some((parent, index))
+    }
+
+    // Ends a group of which every slot is in the seat, and makes the cells of its meta 0.
+    fn retire_group(&mut self, space: &Space<N>, meta: u64, group: &LiveGroup)
+        requires working { Working N.start M.span M.runs M.refused self.old }
+        requires whole { HasWhole self.old.seat meta }
+        requires group { OfGroup self.old.seat meta (Describes group.now) }
+        ensures ends { EndsGroup meta self.old self.new }
+    {
+        self.uncount(meta, group);
+        space.retire(&mut self.seat, meta);
+        clear_meta(space, &mut self.seat, meta);
+    }
+
+    // Takes the slots of a group off those in use of its class.
+    fn uncount(&mut self, meta: u64, group: &LiveGroup)
+        requires working { Working N.start M.span M.runs M.refused self.old }
+        requires whole { HasWhole self.old.seat meta }
+        requires group { OfGroup self.old.seat meta (Describes group.now) }
+        ensures only { self.new ≡ record self.old { usage = self.new.usage } }
+        ensures used { AreUsed (groups_but meta self.old.seat.desk.groups) self.new.usage }
+    {
+        if group.class == LONE {
+            return;
+        }
+        let usage = &mut self.usage;
+        usage[group.class as usize] -= u64::from(group.last) + 1;
+    }
+
+    // Takes a group out of its ring, where it is in one, whose slots are all in the seat.
+    fn leave_any_ring(&mut self, space: &Space<N>, meta: u64, class: u32)
+        requires working { Working N.start M.span M.runs M.refused self.old }
+        requires whole { HasWhole self.old.seat meta }
+        requires class { OfGroup self.old.seat meta (λ g. g.tag ≡ class + 1) }
+        ensures working { Working N.start M.span M.runs M.refused self.new }
+        ensures only { OnlyRing class self.old self.new }
+        ensures whole { HasWhole self.new.seat meta }
+        ensures left { ¬ IsListed self.new.rings meta }
+    {
+        self.rings.stand_once();
+        if self.rings.has(meta) {
+            self.leave_ring(space, meta, class);
+        }
     }
 
     // Takes a group out of its ring whose slots are all in the seat. Where it was the first, the slots in use of the
@@ -75,12 +114,31 @@ impl<N: Name, M: Mapper, P: Rules> Works<N, M, P> {
         ensures left { ¬ IsListed self.new.rings meta }
     {
         let was_first = self.rings.first(class) == Some(meta);
-        space.note_ring(&mut self.seat, meta, false);
-        self.rings.dequeue(class, meta);
+        self.unlist(space, meta, class);
         if was_first {
             if let Some(next) = self.rings.first(class) {
+                self.rings.stand_once();
                 stock_freed(space, &mut self.seat, next);
             }
         }
+    }
+
+    // Takes a group out of its ring, and notes so. Its slots are all in the seat.
+    fn unlist(&mut self, space: &Space<N>, meta: u64, class: u32)
+        requires working { Working N.start M.span M.runs M.refused self.old }
+        requires whole { HasWhole self.old.seat meta }
+        requires class { class < 48 }
+        requires member { Contains (ring_of self.old.rings class) meta }
+        ensures working { Working N.start M.span M.runs M.refused self.new }
+        ensures only { OnlyRing class self.old self.new }
+        ensures bounces { self.new.bounces ≡ self.old.bounces }
+        ensures whole { HasWhole self.new.seat meta }
+        ensures rings { self.new.rings ≡ left self.old.rings class meta }
+        ensures avail { self.new.seat.desk.zero_avail ≡ self.old.seat.desk.zero_avail }
+        ensures left { ¬ IsListed self.new.rings meta }
+    {
+        self.rings.stand_once();
+        space.note_ring(&mut self.seat, meta, false);
+        self.rings.dequeue(class, meta);
     }
 }

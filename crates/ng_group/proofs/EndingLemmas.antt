@@ -1,0 +1,175 @@
+-- A group whose slots are all in the seat leaves its ring, and the next of the ring becomes its first.
+use Rattle.std.proofs.Common.{◌≡◌, ◌≢◌, ℕ, ◌+◌, ◌*◌, ◌<◌, ◌≤◌, eqb, cond, Bool, true, false, true≢false, List, [], ◌∷◌, ◌++◌, Contains, None, Option, Some, length, drop, refl, sym, ap, ◌∙◌, subst, inl, inr, arith}
+use Rattle.std.specs.List.{slice_get}
+use Rattle.std.specs.Option.{option_eq}
+use Rattle.std.proofs.lemmas.Bool.{eqb-false, eqb-true}
+use Rattle.ng_meta.specs.Place.{IsMetaPlace}
+use Rattle.ng_mapper.specs.Mapping.{Span}
+use Rattle.ng_mapper.specs.Runs as mapper
+use Rattle.ng_mapper.specs.declared.refusals.Refusals.{Refusals}
+use Rattle.ng_lists.specs.Rings.{IsListed, RingTable, ring_of}
+use Rattle.ng_lock_moves.specs.Fetches.{HasGroup}
+use Rattle.ng_lock_moves.specs.Masks.{TellsFreed}
+use Rattle.ng_lock_moves.specs.Notes.{NotesRing}
+use Rattle.ng_view.specs.Lists.{Among, find}
+use Rattle.ng_view.specs.LockSteps.{has_number, others, outside, read_bits, ring_noted, ring_read}
+use Rattle.ng_view.specs.Steps.{read}
+use Rattle.ng_view.specs.declared.view.Group.{Group}
+use Rattle.ng_view.specs.declared.view.Held.{Held}
+use Rattle.ng_view.specs.declared.view.Start.{Start}
+use Rattle.ng_view.specs.declared.view.View.{View}
+use Rattle.ng_serve.specs.Groups.{AreInSpace}
+use Rattle.ng_serve.specs.Takes.{ChangesMasks, StocksFreed, with_masks}
+use Rattle.ng_ledger.specs.Groups.{AreGroups, IsOfClass}
+use Rattle.ng_ledger.specs.Rings.{AreRinged, IsIn, IsTable, left}
+use Rattle.ng_ledger.specs.Standing.{Ledger}
+use Rattle.ng_ledger.proofs.ElementLemmas.{contains_get}
+use Rattle.ng_ledger.proofs.RingLemmas.{leave, stock_alone}
+use Rattle.ng_ledger.proofs.StepLemmas.{left_changes, left_first}
+use Rattle.ng_ledger.proofs.TableLemmas.{in_listed, one_ring}
+use Rattle.ng_group.specs.Returning.{HasWhole}
+use Rattle.ng_group.specs.Serving.{OnlyRing, with_search}
+use Rattle.ng_group.specs.States.{IsWorking, State}
+use Rattle.ng_group.proofs.WorkingLemmas.{searched}
+
+-- ---- it is no more noted as listed
+
+-- a number of a list is found in it
+number_found : (m : ℕ) (ns : List ℕ) → Among m ns → has_number m ns ≡ true
+number_found m [] there = elim there [ ]
+number_found m (x ∷ xs) there = by_test (number_found m xs) (eqb x m) refl there
+  where
+    by_test : (Among m xs → has_number m xs ≡ true) → (b : Bool) → eqb x m ≡ b → Among m (x ∷ xs) → cond b true (has_number m xs) ≡ true
+    by_test rest true is there = refl
+    by_test rest false is (inl same) = absurd (eqb-false x m is (sym same))
+    by_test rest false is (inr there) = rest there
+
+-- the view where a meta is no more listed, whose masks were noted as 0
+abbrev pub unlisted : View → ℕ → View
+unlisted v m = read (ring_noted v (others m v.desk.listed) v.desk.zero_avail (m ∷ v.desk.zero_freed) (read_bits m 0 ++ v.desk.set_freed)) (m + 28) 0
+
+pub unlisted_is : (v : View) (m n : ℕ) (w : View) → w ≡ read (ring_read v m false n) (m + 28) n → n ≡ 0 → Among m v.desk.zero_avail → w ≡ unlisted v m
+unlisted_is v m n w view none there = view
+    ∙ ap (λ k. read (ring_read v m false k) (m + 28) k) none
+    ∙ ap (λ (b : Bool). read (ring_noted v (cond b (others m v.desk.listed) v.desk.listed) v.desk.zero_avail (m ∷ v.desk.zero_freed) (read_bits m 0 ++ v.desk.set_freed)) (m + 28) 0)
+        (number_found m v.desk.zero_avail there)
+
+pub noted_unlisted : (v w : View) (m n : ℕ) → HasWhole v m → NotesRing v m false n w → w ≡ unlisted v m
+noted_unlisted v w m n whole notes =
+    let tells : TellsFreed v whole.group n = notes.tells whole.group whole.there whole.of_meta in
+    unlisted_is v m n w notes.view (tells.zero (subst (λ k. Among k v.desk.zero_freed) (sym whole.of_meta) whole.no_freed)) whole.no_avail
+
+module _ (v w : View) (m : ℕ) (is : w ≡ unlisted v m) where
+  unlisted_search : w ≡ with_search v w
+  unlisted_search = subst (λ (x : View). x ≡ with_search v x) (sym is) refl
+
+  pub unlisted_avail : w.desk.zero_avail ≡ v.desk.zero_avail
+  unlisted_avail = ap (λ (x : View). x.desk.zero_avail) is
+
+  pub unlisted_whole : HasWhole v m → HasWhole w m
+  unlisted_whole whole = subst (λ (x : View). HasWhole x m) (sym is) (record {
+    group = whole.group;
+    there = whole.there;
+    of_meta = whole.of_meta;
+    each = whole.each;
+    only = whole.only;
+    no_avail = whole.no_avail;
+    no_freed = inl refl;
+  })
+
+  pub unlisted_works : (start : Start) (span : Span) (live : List mapper.Run) (refused : Refusals) (l : Ledger) (t : RingTable) (class : ℕ)
+      → l.seat ≡ v → IsWorking start span live refused l → IsTable l.rings → IsIn l.rings class m → t ≡ left l.rings class m
+      → IsWorking start span live refused (record l { seat = w; rings = t })
+  unlisted_works start span live refused l t class seat works table in' turned =
+      searched start span live refused l w t works
+      (subst (λ (x : View). w ≡ with_search x w) (sym seat) unlisted_search)
+      (ap (λ (x : RingTable). x.pages) turned)
+      (subst (λ (x : View). AreRinged l.seat.desk.groups x.desk.listed x.desk.zero_avail t) (sym is)
+      (subst (λ (x : View). AreRinged l.seat.desk.groups (others m x.desk.listed) x.desk.zero_avail t) seat
+      (subst (AreRinged l.seat.desk.groups (others m l.seat.desk.listed) l.seat.desk.zero_avail) (sym turned)
+      (leave l.seat.desk.groups l.seat.desk.listed l.seat.desk.zero_avail l.rings class m table in' works.stands.ringed))))
+
+  pub unlisted_only : {M P : Type 0} (class : ℕ) (s : State M P) (t : RingTable)
+      → s.seat ≡ v → IsIn s.rings class m → t ≡ left s.rings class m
+      → OnlyRing class s (record s { seat = w; rings = t })
+  unlisted_only {M} {P} class s t seat in' turned = record {
+    state = refl;
+    view = subst (λ (x : View). w ≡ with_search x w) (sym seat) unlisted_search;
+    came = record { words = (m + 28, 0) ∷ []; readings = ap (λ (x : View). x.readings) is ∙ ap (λ (x : View). x.readings ++ (m + 28, 0) ∷ []) (sym seat) };
+    rings = λ k apart. ap (λ (x : RingTable). ring_of x k) turned ∙ (left_changes s.rings class m in').others k apart;
+    bare = λ k n known apart there noted. subst (λ (ns : List ℕ). Among n ns) (ap (λ (x : View). x.desk.zero_avail) seat ∙ sym unlisted_avail) noted;
+  }
+
+-- ---- freed slots of the next become available
+
+-- the live groups lie in the space
+pub in_space : (pages : ℕ) (gs : List Group) → AreGroups pages gs → AreInSpace pages gs
+in_space pages gs are g there = let is = are.each g there in record { whole = is.whole; inside = omega (arith, is.inside) }
+
+-- a meta of a class's ring has its group
+pub ring_group : (pages : ℕ) (v : View) (t : RingTable) (class m : ℕ) → AreGroups pages v.desk.groups → AreRinged v.desk.groups v.desk.listed v.desk.zero_avail t → class < 48 → IsIn t class m → HasGroup v m × IsMetaPlace m pages
+ring_group pages v t class m are ringed known in' =
+    let of : IsOfClass v.desk.groups m class = ringed.grouped class m known in' in
+    (record { group = of.group; there = of.there; of_meta = of.of_meta }, subst (λ n. IsMetaPlace n pages) of.of_meta (are.each of.group of.there).place)
+
+-- a number that is found is the one
+pub number_is : (o : Option ℕ) (m : ℕ) → true ≡ option_eq eqb o (Some m) → o ≡ Some m
+number_is None m is = absurd (true≢false is)
+number_is (Some x) m is = ap (λ (k : ℕ). Some k) (eqb-true x m (sym is))
+
+-- the meta behind a ring's first has avail noted as 0, and is the first once that one has left
+pub next_bare : (gs : List Group) (ls z : List ℕ) (before after : RingTable) (class m next : ℕ) → class < 48 → AreRinged gs ls z before
+    → slice_get (ring_of before class) 0 ≡ Some m → after ≡ left before class m → slice_get (ring_of after class) 0 ≡ Some next → Among next z
+next_bare gs ls z before after class m next known ringed first turned second =
+    let rest : ring_of after class ≡ drop 1 (ring_of before class) = ap (λ (x : RingTable). ring_of x class) turned ∙ left_first before class m first in
+    ringed.tails class next known (subst (λ xs. Contains xs next) rest (contains_get (ring_of after class) next second))
+
+module _ (v w : View) (next : ℕ) (stocks : StocksFreed v next w) where
+  stocked_search : w ≡ with_search v w
+  stocked_search =
+      let view : w ≡ with_masks v w stocks.changes.words = stocks.changes.view in
+      view
+      ∙ ap (λ (r : List (ℕ × ℕ)). record (with_search v w) { readings = r; desk = record (with_search v w).desk { listed = v.desk.listed } }) (ap (λ (x : View). x.readings) (sym view))
+      ∙ ap (λ (ls : List ℕ). record (with_search v w) { desk = record (with_search v w).desk { listed = ls } }) (ap (λ (x : View). x.desk.listed) (sym view))
+
+  stocked_groups : w.desk.groups ≡ v.desk.groups
+  stocked_groups = ap (λ (x : View). x.desk.groups) stocks.changes.view
+
+  pub stocked_whole : (m : ℕ) → m ≢ next → HasWhole v m → HasWhole w m
+  stocked_whole m apart whole = record {
+    group = whole.group;
+    there = subst (Among whole.group) (sym stocked_groups) whole.there;
+    of_meta = whole.of_meta;
+    each = λ i within. subst (λ (hs : List Held). (h : Held) × (find m i hs ≡ Some h)) (sym stocks.held) (whole.each i within);
+    only = ap (outside m) stocks.held ∙ whole.only;
+    no_avail = stocks.changes.zero_avail m apart whole.no_avail;
+    no_freed = stocks.changes.zero_freed m apart whole.no_freed;
+  }
+
+  pub stocked_works : (start : Start) (span : Span) (live : List mapper.Run) (refused : Refusals) (l : Ledger) (class : ℕ)
+      → l.seat ≡ v → IsWorking start span live refused l → IsTable l.rings → slice_get (ring_of l.rings class) 0 ≡ Some next
+      → IsWorking start span live refused (record l { seat = w })
+  stocked_works start span live refused l class seat works table first =
+      searched start span live refused l w l.rings works
+      (subst (λ (x : View). w ≡ with_search x w) (sym seat) stocked_search)
+      refl
+      (subst (λ (ls : List ℕ). AreRinged l.seat.desk.groups ls w.desk.zero_avail l.rings) (ap (λ (x : View). x.desk.listed) seat ∙ sym (ap (λ (x : View). x.desk.listed) stocks.changes.view))
+      (stock_alone l.seat.desk.groups l.seat.desk.listed l.seat.desk.zero_avail w.desk.zero_avail l.rings class next table first
+      (λ n apart there. stocks.changes.zero_avail n apart (subst (λ (x : View). Among n x.desk.zero_avail) seat there)) works.stands.ringed))
+
+  pub stocked_only : {M P : Type 0} (class : ℕ) (s : State M P)
+      → s.seat ≡ v → IsTable s.rings → slice_get (ring_of s.rings class) 0 ≡ Some next
+      → OnlyRing class s (record s { seat = w })
+  stocked_only {M} {P} class s seat table first = record {
+    state = refl;
+    view = subst (λ (x : View). w ≡ with_search x w) (sym seat) stocked_search;
+    came = record { words = stocks.changes.words; readings = ap (λ (x : View). x.readings) stocks.changes.view ∙ ap (λ (x : View). x.readings ++ stocks.changes.words) (sym seat) };
+    rings = λ k apart. refl;
+    bare = λ k n known apart there noted. stocks.changes.zero_avail n
+        (λ same. apart (one_ring s.rings k class next table (subst (IsIn s.rings k) same there) (contains_get (ring_of s.rings class) next first)))
+        (subst (λ (x : View). Among n x.desk.zero_avail) seat noted);
+  }
+
+-- a meta in no ring isn't a ring's first
+pub not_first : (t : RingTable) (class m next : ℕ) → ¬ IsListed t m → slice_get (ring_of t class) 0 ≡ Some next → m ≢ next
+not_first t class m next absent first same = absent (subst (IsListed t) (sym same) (in_listed t class next (contains_get (ring_of t class) next first)))

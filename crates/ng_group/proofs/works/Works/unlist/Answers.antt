@@ -1,0 +1,31 @@
+use Rattle.std.proofs.Common.{refl, subst, sym}
+use Rattle.ng_lists.specs.Rings.{IsListed}
+use Rattle.ng_ledger.specs.Rings.{IsIn, IsTable}
+use Rattle.ng_ledger.proofs.StepLemmas.{left_unlisted}
+use Rattle.ng_group.specs.Returning.{HasWhole}
+use Rattle.ng_group.specs.States.{State, Working, ledger_of}
+use Rattle.ng_group.proofs.EndingLemmas.{noted_unlisted, unlisted_whole, unlisted_works}
+use Rattle.ng_group.proofs.works.Works.unlist.Goals as goal
+
+pub returns-clause-working : goal.returns-clause-working
+returns-clause-working g c =
+    let whole : HasWhole c.self.inside.seat c.args.meta = subst (λ (s : State g.row.M.Denot g.row.P.Denot). HasWhole s.seat c.args.meta) (sym c.self.view_is) c.requires.whole in
+    let member : IsIn c.self.inside.rings c.args.class c.args.meta = subst (λ (s : State g.row.M.Denot g.row.P.Denot). IsIn s.rings c.args.class c.args.meta) (sym c.self.view_is) c.requires.member in
+    let table : IsTable c.self.inside.rings = record { classes = c.stand_once.ensures.classes; places = c.stand_once.ensures.places; once = c.stand_once.ensures.once; apart = c.stand_once.ensures.apart } in
+    let is = noted_unlisted c.self.inside.seat c.note_ring.new.seat c.args.meta c.note_ring.result whole c.note_ring.ensures in
+    unlisted_works c.self.inside.seat c.note_ring.new.seat c.args.meta is g.N.Name.start (g.M.Mapper.span c.self.inside.mapper) (g.M.Mapper.runs c.self.inside.mapper) (g.M.Mapper.refused c.self.inside.mapper)
+    (record { seat = c.self.inside.seat; rings = c.self.inside.rings; stock = c.self.inside.stock; parents = c.self.inside.parents; usage = c.self.inside.usage })
+    c.dequeue.new.self c.args.class refl
+    (subst (λ (s : State g.row.M.Denot g.row.P.Denot). Working g.N.Name.start g.M.Mapper.span g.M.Mapper.runs g.M.Mapper.refused s) (sym c.self.view_is) c.requires.working)
+    table member c.dequeue.ensures.removed
+
+pub returns-clause-whole : goal.returns-clause-whole
+returns-clause-whole g c =
+    let whole : HasWhole c.self.inside.seat c.args.meta = subst (λ (s : State g.row.M.Denot g.row.P.Denot). HasWhole s.seat c.args.meta) (sym c.self.view_is) c.requires.whole in
+    unlisted_whole c.self.inside.seat c.note_ring.new.seat c.args.meta (noted_unlisted c.self.inside.seat c.note_ring.new.seat c.args.meta c.note_ring.result whole c.note_ring.ensures) whole
+
+pub returns-clause-left : goal.returns-clause-left
+returns-clause-left g c =
+    let member : IsIn c.self.inside.rings c.args.class c.args.meta = subst (λ (s : State g.row.M.Denot g.row.P.Denot). IsIn s.rings c.args.class c.args.meta) (sym c.self.view_is) c.requires.member in
+    let table : IsTable c.self.inside.rings = record { classes = c.stand_once.ensures.classes; places = c.stand_once.ensures.places; once = c.stand_once.ensures.once; apart = c.stand_once.ensures.apart } in
+    subst (λ t. ¬ IsListed t c.args.meta) (sym c.dequeue.ensures.removed) (left_unlisted c.self.inside.rings c.args.class c.args.meta table member)
