@@ -8,6 +8,14 @@ pub mod BuildingLemmas
 pub mod MappingLemmas
 pub mod NestingLemmas
 pub mod ReturningLemmas
+pub mod HandSlotLemmas
+pub mod RecursionLemmas
+pub mod SupplyLemmas
+pub mod CallLemmas
+pub mod OpeningLemmas
+pub mod LoneLemmas
+pub mod LoneSeatLemmas
+pub mod ClassForLemmas
 pub mod FillingLemmas
 pub mod PlainLemmas
 pub mod WholeLemmas

@@ -1,5 +1,5 @@
 -- The class that serves a request.
-use Rattle.std.specs.Prelude.{◌≡◌, ◌≢◌, ◌⊎◌, ℕ, ◌+◌, ◌%◌, ◌^◌, ◌<◌, ◌↔◌, ◌≤◌, ◌∷◌, [], Bool, IsTrue, List, None, Some, slice_get, slice_index, true, false}
+use Rattle.std.specs.Prelude.{◌≡◌, ◌≢◌, ◌⊎◌, ℕ, ◌+◌, ◌%◌, ◌^◌, ◌<◌, ◌↔◌, [], Bool, IsTrue, List, Some, slice_get, slice_index, true, false}
 use Rattle.ng_lists.specs.Rings.{ring_of}
 use Rattle.ng_class.specs.Class.{IsLeastClass}
 use Rattle.ng_policy.specs.Coarse.{GoesUp}
@@ -13,7 +13,7 @@ pub record IsReady (words : List (ℕ × ℕ)) (ring : List ℕ) (ready : Bool) 
   pub empty : ring ≡ [] → ready ≡ false
   pub first : (m : ℕ) → slice_get ring 0 ≡ Some m
       → (avail : ℕ) × (freed : ℕ) × Among {A = ℕ × ℕ} (m + 24, avail) words × Among {A = ℕ × ℕ} (m + 28, freed) words
-          × (IsTrue ready ↔ ((0 < avail % 2 ^ 32) ⊎ (0 < freed)))
+      × (IsTrue ready ↔ ((0 < avail % 2 ^ 32) ⊎ (0 < freed)))
 
 -- the class that serves so many bytes: the least one with room for them and 4, or the next, exactly where the rings and the
 -- usage say so, and the masks that were read of the next class's first group

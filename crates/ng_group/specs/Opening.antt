@@ -3,8 +3,7 @@ use Rattle.std.specs.Prelude.{◌≡◌, ℕ, List, [], replicate}
 use Rattle.ng_mapper.specs.Mapping.{Span}
 use Rattle.ng_mapper.specs.Runs as mapper
 use Rattle.ng_mapper.specs.declared.refusals.Refusals.{Refusals}
-use Rattle.ng_policy.specs.Bounce.{no_bounces}
-use Rattle.ng_shelf.specs.Parents.{ParentTable, parent_of}
+use Rattle.ng_shelf.specs.Parents.{ParentTable}
 use Rattle.ng_shelf.specs.Stock.{Stock, free_of}
 use Rattle.ng_lists.specs.Rings.{RingTable}
 use Rattle.ng_space.specs.Callers.{opened}

@@ -1,5 +1,5 @@
 // What the rules are asked.
-ghost use Rattle.std.specs.Prelude.{◌<◌};
+ghost use Rattle.std.specs.Prelude.{◌<◌, ◌≤◌};
 ghost use Rattle.ng_policy.specs.Ask.{AskInRange};
 ghost use Rattle.ng_group.specs.Building.{IsAsk};
 ghost use Rattle.ng_group.specs.States.{Working};
@@ -13,6 +13,7 @@ impl<N: Name, M: Mapper, P: Rules> Works<N, M, P> {
     /// What the rules are asked of a new group of a class.
     pub(crate) fn ask(&self, class: u32) -> Ask
         requires class { class < 48 }
+        requires few { N.start.pages ≤ 16384 }
         requires working { Working N.start M.span M.runs M.refused self.now }
         ensures range { AskInRange result }
         ensures asks { IsAsk self.now.usage self.now.bounces class result }

@@ -1,0 +1,79 @@
+use Rattle.std.proofs.Common.{◌≡◌, ◌+◌, ◌*◌, ◌<◌, ◌≤◌, [], ap, subst, ◌∙◌, refl, arith}
+use Rattle.ng_ledger.specs.Standing.{Ledger}
+use Rattle.ng_view.specs.declared.view.Group.{Group}
+use Rattle.ng_group.specs.States.{State, ledger_of}
+use Rattle.ng_group.specs.Steps.{HandsOver}
+use Rattle.ng_group.proofs.LoneLemmas.{ComesAlone, hand_alone, lone_in_space, lone_live, may_build_lone, pages_hold, served_alone, working_alone}
+use Rattle.ng_group.proofs.MappingLemmas.{meta_outside, meta_ready, run_ready, with_seat, working_refused}
+use Rattle.ng_group.proofs.works.Works.build_lone.Given.{Over}
+use Rattle.ng_group.proofs.works.Works.build_lone.Goals as goal
+
+pub returns-in_err-base-clause-working : goal.returns-in_err-base-clause-working
+returns-in_err-base-clause-working g c =
+    let may = may_build_lone g.N.Name.start g.M.Mapper.span g.M.Mapper.runs g.M.Mapper.refused c.args.meta c.self.view_is c.requires.working c.requires.meta in
+    working_refused may.working c.in_err-base.ensures.err c.in_err-base.ensures.constant c.in_err-base.ensures.kept c.in_err-base.ensures.mapper.counted
+
+pub publish_run-requires-clause-meta : goal.publish_run-requires-clause-meta
+publish_run-requires-clause-meta g c =
+    let may = may_build_lone g.N.Name.start g.M.Mapper.span g.M.Mapper.runs g.M.Mapper.refused c.args.meta c.self.view_is c.requires.working c.requires.meta in
+    meta_ready c.in_ok-base.ensures.ok may.hand.free
+
+pub publish_run-requires-clause-run : goal.publish_run-requires-clause-run
+publish_run-requires-clause-run g c =
+    let may = may_build_lone g.N.Name.start g.M.Mapper.span g.M.Mapper.runs g.M.Mapper.refused c.args.meta c.self.view_is c.requires.working c.requires.meta in
+    run_ready c.in_ok-base.ensures.ok may.hand.free
+
+pub publish_run-requires-clause-apart : goal.publish_run-requires-clause-apart
+publish_run-requires-clause-apart g c =
+    let may = may_build_lone g.N.Name.start g.M.Mapper.span g.M.Mapper.runs g.M.Mapper.refused c.args.meta c.self.view_is c.requires.working c.requires.meta in
+    meta_outside c.in_ok-base.ensures.ok may.hand.free (g.M.Mapper.span c.map_run.new.mapper) (g.M.Mapper.runs c.map_run.new.mapper) (g.met.M.Mapper.laid c.map_run.new.mapper) c.in_ok-base.ensures.mapper.mapped
+
+pub note_ring-requires-clause-live : goal.note_ring-requires-clause-live
+note_ring-requires-clause-live g c = lone_live c.publish_run.ensures
+
+-- the group that came, and the books before it
+abbrev group : (g : Over) (c : goal.After-note_ring g) → Group
+group g c = record { meta = c.args.meta; base = c.in_ok-base.base; tag = 64; last = 0; maplen = c.div_ceil-pages.result }
+
+abbrev before : (g : Over) (c : goal.After-note_ring g) → Ledger
+before g c = record { seat = c.self.inside.seat; rings = c.self.inside.rings; stock = c.self.inside.stock; parents = c.self.inside.parents; usage = c.self.inside.usage }
+
+holds : (g : Over) (c : goal.After-note_ring g) → c.args.bytes + 20 ≤ 4096 * c.div_ceil-pages.result
+holds g c =
+    let fits : c.args.bytes + 16 + 4 ≤ 4096 * c.div_ceil-pages.result = pages_hold (c.args.bytes + 16 + 4) c.div_ceil-pages.result c.div_ceil-pages.ensures in
+    omega (arith, fits)
+
+comes : (g : Over) (c : goal.After-note_ring g) → ComesAlone g.N.Name.start (g.M.Mapper.span c.self.inside.mapper) (g.M.Mapper.span c.map_run.new.mapper) (g.M.Mapper.runs c.self.inside.mapper) (g.M.Mapper.runs c.map_run.new.mapper) (g.M.Mapper.refused c.self.inside.mapper) (g.M.Mapper.refused c.map_run.new.mapper) (before g c) (group g c) c.map_run.new.seat c.publish_run.new.seat c.note_ring.result c.note_ring.new.seat
+comes g c =
+    let may = may_build_lone g.N.Name.start g.M.Mapper.span g.M.Mapper.runs g.M.Mapper.refused c.args.meta c.self.view_is c.requires.working c.requires.meta in
+    let told = c.in_ok-base.ensures in
+    let fits : c.args.bytes + 20 ≤ 4096 * c.div_ceil-pages.result = holds g c in
+    let some : 0 < c.div_ceil-pages.result = omega (arith, fits) in
+    record {
+      working = may.working;
+      constant = told.constant;
+      calm = told.calm;
+      bounded = g.met.M.Mapper.bounded c.map_run.new.mapper;
+      laid = g.met.M.Mapper.laid c.map_run.new.mapper;
+      mapped = told.mapper.mapped;
+      note = told.ok.note;
+      publishes = c.publish_run.ensures;
+      unlists = c.note_ring.ensures;
+      kind = record { lone = refl; single = refl };
+      group = lone_in_space g.N.Name.start (group g c) (record { lone = refl; single = refl }) some may.hand.free.place told.ok.space.few told.ok.space.whole told.ok.space.below;
+      paged = some;
+      free = may.hand.free;
+      out = may.hand.taken;
+    }
+
+pub returns-clause-working : goal.returns-clause-working
+returns-clause-working g c = working_alone (comes g c)
+
+pub returns-clause-hand : goal.returns-clause-hand
+returns-clause-hand g c =
+    subst (λ (s : State g.row.M.Denot g.row.P.Denot). HandsOver c.args.meta (ledger_of s) (with_seat (before g c) c.note_ring.new.seat)) c.self.view_is (hand_alone (comes g c))
+
+pub returns-clause-served : goal.returns-clause-served
+returns-clause-served g c =
+    let idle : c.self.inside.seat.held ≡ [] = ap (λ (s : State g.row.M.Denot g.row.P.Denot). s.seat.held) c.self.view_is ∙ c.requires.idle in
+    served_alone (comes g c) c.args.bytes idle (holds g c)
