@@ -25,7 +25,7 @@ use Rattle.ng_ledger.specs.Rings.{AreRinged, IsIn, IsTable, left}
 use Rattle.ng_ledger.specs.Standing.{Ledger}
 use Rattle.ng_ledger.proofs.ElementLemmas.{contains_get}
 use Rattle.ng_ledger.proofs.RingLemmas.{leave, stock_alone}
-use Rattle.ng_ledger.proofs.StepLemmas.{left_changes, left_first}
+use Rattle.ng_ledger.proofs.StepLemmas.{left_changes, left_first, left_unlisted}
 use Rattle.ng_ledger.proofs.TableLemmas.{in_listed, one_ring}
 use Rattle.ng_group.specs.Returning.{HasWhole}
 use Rattle.ng_group.specs.Serving.{OnlyRing, with_search}
@@ -99,6 +99,10 @@ module _ (v w : View) (m : ℕ) (is : w ≡ unlisted v m) where
     rings = λ k apart. ap (λ (x : RingTable). ring_of x k) turned ∙ (left_changes s.rings class m in').others k apart;
     bare = λ k n known apart there noted. subst (λ (ns : List ℕ). Among n ns) (ap (λ (x : View). x.desk.zero_avail) seat ∙ sym unlisted_avail) noted;
   }
+
+-- and is in no ring
+pub left_out : (before after : RingTable) (class m : ℕ) → IsTable before → IsIn before class m → after ≡ left before class m → ¬ IsListed after m
+left_out before after class m table in' turned = subst (λ (t : RingTable). ¬ IsListed t m) (sym turned) (left_unlisted before class m table in')
 
 -- ---- freed slots of the next become available
 

@@ -24,3 +24,4 @@ pub mod EndingLemmas
 pub mod EndedLemmas
 pub mod SlotBackLemmas
 pub mod EndGroupLemmas
+pub mod UncountLemmas

@@ -2,7 +2,7 @@ use Rattle.std.proofs.Common.{subst, sym}
 use Rattle.ng_ledger.specs.Rings.{IsTable}
 use Rattle.ng_lists.specs.Rings.{IsListed}
 use Rattle.ng_group.specs.States.{State}
-use Rattle.ng_group.proofs.EndGroupLemmas.{listed_in}
+use Rattle.ng_group.proofs.UncountLemmas.{listed_in}
 use Rattle.ng_group.proofs.works.Works.leave_any_ring.Goals as goal
 
 pub leave_ring-requires-clause-class : goal.leave_ring-requires-clause-class

@@ -6,7 +6,7 @@ use Rattle.ng_ledger.specs.Usage.{AreUsed}
 use Rattle.ng_group.specs.Returning.{HasWhole}
 use Rattle.ng_group.specs.States.{State, ledger_of}
 use Rattle.ng_group.proofs.EndedLemmas.{all_slots}
-use Rattle.ng_group.proofs.EndGroupLemmas.{idle_meta}
+use Rattle.ng_group.proofs.UncountLemmas.{idle_meta}
 use Rattle.ng_group.proofs.works.Works.retire_group.Goals as goal
 
 pub retire-requires-clause-slots : goal.retire-requires-clause-slots

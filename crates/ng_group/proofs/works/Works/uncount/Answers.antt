@@ -2,7 +2,7 @@ use Rattle.std.proofs.Common.{ap, subst, sym, ◌≡◌, ℕ, ◌+◌, ◌-◌, 
 use Rattle.ng_view.specs.LockSteps.{groups_but}
 use Rattle.ng_ledger.specs.Usage.{AreUsed}
 use Rattle.ng_group.specs.States.{State, ledger_of}
-use Rattle.ng_group.proofs.EndGroupLemmas.{few_enough, known, uncounted, uncounted_lone}
+use Rattle.ng_group.proofs.UncountLemmas.{few_enough, known, uncounted, uncounted_lone}
 use Rattle.ng_group.proofs.works.Works.uncount.Goals as goal
 
 pub returns-then-group-eq-LONE-clause-used : goal.returns-then-group-eq-LONE-clause-used

@@ -1,10 +1,8 @@
 use Rattle.std.proofs.Common.{refl, subst, sym}
-use Rattle.ng_lists.specs.Rings.{IsListed}
 use Rattle.ng_ledger.specs.Rings.{IsIn, IsTable}
-use Rattle.ng_ledger.proofs.StepLemmas.{left_unlisted}
 use Rattle.ng_group.specs.Returning.{HasWhole}
-use Rattle.ng_group.specs.States.{State, Working, ledger_of}
-use Rattle.ng_group.proofs.EndingLemmas.{noted_unlisted, unlisted_whole, unlisted_works}
+use Rattle.ng_group.specs.States.{State, Working}
+use Rattle.ng_group.proofs.EndingLemmas.{left_out, noted_unlisted, unlisted_whole, unlisted_works}
 use Rattle.ng_group.proofs.works.Works.unlist.Goals as goal
 
 pub returns-clause-working : goal.returns-clause-working
@@ -28,4 +26,4 @@ pub returns-clause-left : goal.returns-clause-left
 returns-clause-left g c =
     let member : IsIn c.self.inside.rings c.args.class c.args.meta = subst (λ (s : State g.row.M.Denot g.row.P.Denot). IsIn s.rings c.args.class c.args.meta) (sym c.self.view_is) c.requires.member in
     let table : IsTable c.self.inside.rings = record { classes = c.stand_once.ensures.classes; places = c.stand_once.ensures.places; once = c.stand_once.ensures.once; apart = c.stand_once.ensures.apart } in
-    subst (λ t. ¬ IsListed t c.args.meta) (sym c.dequeue.ensures.removed) (left_unlisted c.self.inside.rings c.args.class c.args.meta table member)
+    left_out c.self.inside.rings c.dequeue.new.self c.args.class c.args.meta table member c.dequeue.ensures.removed
