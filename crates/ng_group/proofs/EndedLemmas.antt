@@ -1,6 +1,5 @@
 -- A group is no more, whose slots were all in the seat: what stands then, and what is in hand.
-use Rattle.std.proofs.Common.{◌≡◌, ◌≢◌, ◌⊎◌, ℕ, ◌+◌, ◌*◌, ◌%◌, ◌<◌, ◌≤◌, eqb, cond, Bool, false, List, [], ◌∷◌, ◌++◌, Contains, Option, None, Some, refl, sym, ap, ◌∙◌, subst, ⊎_elim, inl, inr, arith}
-use Rattle.std.proofs.lemmas.Bool.{eq-eqb}
+use Rattle.std.proofs.Common.{◌≡◌, ◌≢◌, ℕ, ◌+◌, ◌*◌, ◌<◌, List, Contains, refl, sym, ◌∙◌, subst, ⊎_elim, inl, inr, arith}
 use Rattle.ng_geometry.proofs.Lists.{run_was}
 use Rattle.ng_meta.specs.Place.{IsMetaPlace}
 use Rattle.ng_mapper.specs.Mapping.{AreLaid, IsSpan, Span}
@@ -9,37 +8,32 @@ use Rattle.ng_mapper.specs.declared.refusals.Refusals.{Refusals}
 use Rattle.ng_mapper.proofs.LaidLemmas.{lies-contained}
 use Rattle.ng_lists.specs.Rings.{IsListed}
 use Rattle.ng_shelf.specs.Stock.{free_of}
-use Rattle.ng_lock_moves.specs.Fetches.{HasGroup}
-use Rattle.ng_lock_moves.specs.Groups.{HasAllSlots, IsCarriedIn, Retires}
+use Rattle.ng_lock_moves.specs.Groups.{HasAllSlots}
 use Rattle.ng_lock_moves.specs.Notes.{plain_run}
 use Rattle.ng_view.specs.Layouts.{InArea}
-use Rattle.ng_view.specs.Lists.{Among, edit, find, is_at}
-use Rattle.ng_view.specs.LockSteps.{carrier, groups_but, nest_of, outside, retired_nested, runs_but}
+use Rattle.ng_view.specs.Lists.{Among}
+use Rattle.ng_view.specs.LockSteps.{groups_but, retired_nested, runs_but}
 use Rattle.ng_view.specs.declared.view.Group.{Group}
 use Rattle.ng_view.specs.declared.view.Held.{Held}
 use Rattle.ng_view.specs.declared.view.Layout.{Layout}
-use Rattle.ng_view.specs.declared.view.Nest.{Nest}
-use Rattle.ng_view.specs.declared.view.Run.{Run}
 use Rattle.ng_view.specs.declared.view.Start.{Start}
 use Rattle.ng_view.specs.declared.view.View.{View}
 use Rattle.ng_build.specs.Areas.{without_run}
 use Rattle.ng_build.specs.Cells.{knowing}
-use Rattle.ng_build.specs.Nestings.{recalling}
-use Rattle.ng_ledger.specs.Carriers.{AreCarried, AreNested}
-use Rattle.ng_ledger.specs.Groups.{AreGroups, IsUnborn}
-use Rattle.ng_ledger.specs.Metas.{AreFree, AreOfAreas, IsBlankMeta, Keeps}
-use Rattle.ng_ledger.specs.Runs.{AreFounded, AreMapped, AreServed, AreServedBut, HasRun}
-use Rattle.ng_ledger.specs.Standing.{InHand, Ledger}
+use Rattle.ng_ledger.specs.Groups.{IsUnborn}
+use Rattle.ng_ledger.specs.Metas.{AreFree, IsBlankMeta, Keeps}
+use Rattle.ng_ledger.specs.Runs.{AreMapped, AreServed, AreServedBut, HasRun}
+use Rattle.ng_ledger.specs.Standing.{Ledger}
 use Rattle.ng_ledger.specs.Usage.{AreUsed}
 use Rattle.ng_ledger.proofs.AreaLemmas.{KeepsAreas, area_at_stays, area_stays, areas_gone, areas_less}
 use Rattle.ng_ledger.proofs.CarrierLemmas.{carried_less, nested_less}
 use Rattle.ng_ledger.proofs.FoundedLemmas.{founded_gone, founded_less, none_left}
-use Rattle.ng_ledger.proofs.GroupLemmas.{drop_group, group_left, same_group, unborn_before, unborn_dropped, unborn_stays}
+use Rattle.ng_ledger.proofs.GroupLemmas.{drop_group, same_group, unborn_before, unborn_dropped, unborn_stays}
 use Rattle.ng_ledger.proofs.MetaLemmas.{area_places, blank_kept, free_kept_meta, free_kept_run, free_moved, free_retired, of_areas_moved, of_areas_retired, places_apart}
 use Rattle.ng_ledger.proofs.RingLemmas.{retire}
 use Rattle.ng_ledger.proofs.RunLemmas.{area_apart, mapped_gone}
 use Rattle.ng_ledger.proofs.ServedLemmas.{served_gone, served_nested_less, served_run_less}
-use Rattle.ng_group.specs.Returning.{ComesInHand, HasReturned, HasWhole, IsAbove}
+use Rattle.ng_group.specs.Returning.{ComesInHand, HasWhole}
 use Rattle.ng_group.specs.States.{IsWorking}
 
 -- where a live group has all of its slots in the seat, the seat may end it

@@ -1,5 +1,5 @@
 -- A group whose slots are all in the seat leaves its ring, and the next of the ring becomes its first.
-use Rattle.std.proofs.Common.{◌≡◌, ◌≢◌, ℕ, ◌+◌, ◌*◌, ◌<◌, ◌≤◌, eqb, cond, Bool, true, false, true≢false, List, [], ◌∷◌, ◌++◌, Contains, None, Option, Some, length, drop, refl, sym, ap, ◌∙◌, subst, inl, inr, arith}
+use Rattle.std.proofs.Common.{◌≡◌, ◌≢◌, ℕ, ◌+◌, ◌<◌, eqb, cond, Bool, true, false, true≢false, List, [], ◌∷◌, ◌++◌, Contains, None, Option, Some, drop, refl, sym, ap, ◌∙◌, subst, inl, inr, arith}
 use Rattle.std.specs.List.{slice_get}
 use Rattle.std.specs.Option.{option_eq}
 use Rattle.std.proofs.lemmas.Bool.{eqb-false, eqb-true}
@@ -19,7 +19,7 @@ use Rattle.ng_view.specs.declared.view.Held.{Held}
 use Rattle.ng_view.specs.declared.view.Start.{Start}
 use Rattle.ng_view.specs.declared.view.View.{View}
 use Rattle.ng_serve.specs.Groups.{AreInSpace}
-use Rattle.ng_serve.specs.Takes.{ChangesMasks, StocksFreed, with_masks}
+use Rattle.ng_serve.specs.Takes.{StocksFreed, with_masks}
 use Rattle.ng_ledger.specs.Groups.{AreGroups, IsOfClass}
 use Rattle.ng_ledger.specs.Rings.{AreRinged, IsIn, IsTable, left}
 use Rattle.ng_ledger.specs.Standing.{Ledger}
@@ -52,7 +52,7 @@ pub unlisted_is : (v : View) (m n : ℕ) (w : View) → w ≡ read (ring_read v 
 unlisted_is v m n w view none there = view
     ∙ ap (λ k. read (ring_read v m false k) (m + 28) k) none
     ∙ ap (λ (b : Bool). read (ring_noted v (cond b (others m v.desk.listed) v.desk.listed) v.desk.zero_avail (m ∷ v.desk.zero_freed) (read_bits m 0 ++ v.desk.set_freed)) (m + 28) 0)
-        (number_found m v.desk.zero_avail there)
+    (number_found m v.desk.zero_avail there)
 
 pub noted_unlisted : (v w : View) (m n : ℕ) → HasWhole v m → NotesRing v m false n w → w ≡ unlisted v m
 noted_unlisted v w m n whole notes =

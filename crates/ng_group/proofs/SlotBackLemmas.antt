@@ -1,16 +1,15 @@
 -- The slot that carried a group is in the seat again once the group is no more.
-use Rattle.std.proofs.Common.{◌≡◌, ◌≢◌, ◌⊎◌, ℕ, ◌+◌, ◌*◌, ◌%◌, ◌<◌, ◌≤◌, ◌&&◌, eqb, cond, Bool, true, false, List, [], ◌∷◌, ◌++◌, Contains, Option, None, Some, refl, sym, ap, ◌∙◌, subst, inl, inr, arith}
+use Rattle.std.proofs.Common.{◌≡◌, ℕ, ◌+◌, ◌≤◌, ◌&&◌, eqb, cond, Bool, true, List, [], ◌∷◌, ◌++◌, Option, None, Some, refl, sym, ap, ◌∙◌, subst, arith}
 use Rattle.std.proofs.lemmas.Bool.{eq-eqb}
-use Rattle.ng_lock_moves.specs.Groups.{IsCarriedIn, Retires}
+use Rattle.ng_lock_moves.specs.Groups.{IsCarriedIn}
 use Rattle.ng_view.specs.Lists.{Among, edit, find, is_at}
 use Rattle.ng_view.specs.LockSteps.{carrier, groups_but, nest_of, outside, retired_nested}
-use Rattle.ng_view.specs.Places.{reach, slot_start, stride}
+use Rattle.ng_view.specs.Places.{slot_start, stride}
 use Rattle.ng_view.specs.declared.view.Group.{Group}
 use Rattle.ng_view.specs.declared.view.Held.{Held}
 use Rattle.ng_view.specs.declared.view.Nest.{Nest}
 use Rattle.ng_view.specs.declared.view.View.{View}
-use Rattle.ng_build.specs.Cells.{knowing}
-use Rattle.ng_build.specs.Nestings.{HasHead, OnlySlot, recalling}
+use Rattle.ng_build.specs.Nestings.{HasHead, recalling}
 use Rattle.ng_ledger.specs.Groups.{AreGroups}
 use Rattle.ng_ledger.proofs.GroupLemmas.{group_left, groups_were, same_group}
 use Rattle.ng_group.specs.Returning.{HasReturned, HasWhole, IsAbove}

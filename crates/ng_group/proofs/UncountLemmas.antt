@@ -1,5 +1,5 @@
 -- What a group is told to be before it goes: its ring, and the slots in use of its class.
-use Rattle.std.proofs.Common.{◌≡◌, ◌≢◌, ◌⊎◌, ℕ, ◌+◌, ◌-◌, ◌<◌, ◌≤◌, List, [], slice_index, slice_set, sym, ap, ◌∙◌, subst, ⊎_elim, arith}
+use Rattle.std.proofs.Common.{◌≡◌, ◌≢◌, ℕ, ◌+◌, ◌-◌, ◌<◌, ◌≤◌, List, slice_index, slice_set, sym, ap, ◌∙◌, subst, ⊎_elim, arith}
 use Rattle.ng_mapper.specs.Mapping.{Span}
 use Rattle.ng_mapper.specs.Runs as mapper
 use Rattle.ng_mapper.specs.declared.refusals.Refusals.{Refusals}
@@ -26,7 +26,6 @@ use Rattle.ng_ledger.proofs.TableLemmas.{listed_class}
 use Rattle.ng_group.specs.Returning.{HasWhole}
 use Rattle.ng_group.specs.States.{IsWorking}
 use Rattle.ng_group.proofs.EndedLemmas.{whole_area}
-
 
 -- a group of a class other than 63 is of one of the 48
 pub class_known : (pages class : ℕ) (g : Group) → IsGroup pages g → g.tag ≡ class + 1 → class ≢ 63 → class < 48

@@ -1,4 +1,4 @@
-use Rattle.std.proofs.Common.{subst, sym}
+use Rattle.std.proofs.Common.{subst}
 use Rattle.ng_ledger.specs.Rings.{IsTable}
 use Rattle.ng_lists.specs.Rings.{IsListed}
 use Rattle.ng_group.specs.States.{State}

@@ -30,7 +30,7 @@ stock_freed-requires-clause-bare g c =
     let rings : c.self-2.inside.rings ≡ left c.args.self.now.rings c.args.class c.args.meta = ap (λ (s : State g.row.M.Denot g.row.P.Denot). s.rings) c.self-2.view_is ∙ c.unlist.ensures.rings in
     let second : slice_get (ring_of c.self-2.inside.rings c.args.class) 0 ≡ Some c.in-Some.next = sym c.first-then-was_first.ensures.first ∙ c.in-Some.is in
     let first : slice_get (ring_of c.args.self.now.rings c.args.class) 0 ≡ Some c.args.meta =
-        ap (λ (s : State g.row.M.Denot g.row.P.Denot). slice_get (ring_of s.rings c.args.class) 0) (sym c.self.view_is) ∙ sym c.first.ensures.first ∙ number_is c.first.result c.args.meta (c.if-was_first.ensures) in
+    ap (λ (s : State g.row.M.Denot g.row.P.Denot). slice_get (ring_of s.rings c.args.class) 0) (sym c.self.view_is) ∙ sym c.first.ensures.first ∙ number_is c.first.result c.args.meta (c.if-was_first.ensures) in
     subst (λ ns. Among c.in-Some.next ns) (sym (ap (λ (s : State g.row.M.Denot g.row.P.Denot). s.seat.desk.zero_avail) c.self-2.view_is ∙ c.unlist.ensures.avail))
     (next_bare before.seat.desk.groups before.seat.desk.listed before.seat.desk.zero_avail before.rings c.self-2.inside.rings c.args.class c.args.meta c.in-Some.next c.requires.class works.stands.ringed first rings second)
 

@@ -25,13 +25,15 @@ pub returns : goal.returns
 returns g c =
     let seat : c.self.inside.seat ≡ c.args.self.now.seat = ap (λ (s : State g.row.M.Denot g.row.P.Denot). s.seat) c.self.view_is ∙ ap (λ (s : State g.row.M.Denot g.row.P.Denot). s.seat) c.uncount.ensures.only in
     let usage : c.self.inside.usage ≡ c.uncount.new.self.usage = ap (λ (s : State g.row.M.Denot g.row.P.Denot). s.usage) c.self.view_is in
-    record { ends = record {
-      state = ap (λ (s : State g.row.M.Denot g.row.P.Denot). record s { seat = c.clear_meta.new.seat }) (c.self.view_is ∙ c.uncount.ensures.only)
-          ∙ ap (λ us. record c.args.self.now { seat = c.clear_meta.new.seat; usage = us }) (sym usage);
-      gone = c.retire.new.seat;
-      retires = subst (λ (v : View). Retires v c.args.meta c.retire.new.seat) seat c.retire.ensures;
-      cells = c.clear_meta.ensures.view;
-      zero = c.clear_meta.ensures.zero;
-      kept = c.clear_meta.ensures.kept;
-      used = subst (AreUsed (groups_but c.args.meta c.args.self.now.seat.desk.groups)) (sym usage) c.uncount.ensures.used;
-    } }
+    record {
+      ends = record {
+        state = ap (λ (s : State g.row.M.Denot g.row.P.Denot). record s { seat = c.clear_meta.new.seat }) (c.self.view_is ∙ c.uncount.ensures.only)
+            ∙ ap (λ us. record c.args.self.now { seat = c.clear_meta.new.seat; usage = us }) (sym usage);
+        gone = c.retire.new.seat;
+        retires = subst (λ (v : View). Retires v c.args.meta c.retire.new.seat) seat c.retire.ensures;
+        cells = c.clear_meta.ensures.view;
+        zero = c.clear_meta.ensures.zero;
+        kept = c.clear_meta.ensures.kept;
+        used = subst (AreUsed (groups_but c.args.meta c.args.self.now.seat.desk.groups)) (sym usage) c.uncount.ensures.used;
+      };
+    }

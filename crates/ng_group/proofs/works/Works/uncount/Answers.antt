@@ -1,4 +1,4 @@
-use Rattle.std.proofs.Common.{ap, subst, sym, ◌≡◌, ℕ, ◌+◌, ◌-◌, ◌≤◌, List, slice_index, slice_set}
+use Rattle.std.proofs.Common.{ap, subst, sym, ℕ, ◌+◌, ◌-◌, ◌≤◌, List, slice_index, slice_set}
 use Rattle.ng_view.specs.LockSteps.{groups_but}
 use Rattle.ng_ledger.specs.Usage.{AreUsed}
 use Rattle.ng_group.specs.States.{State, ledger_of}
@@ -24,4 +24,3 @@ bounds-usage-group-2 g c =
 pub returns-clause-used : goal.returns-clause-used
 returns-clause-used g c =
     subst (λ (us : List ℕ). AreUsed (groups_but c.args.meta c.args.self.now.seat.desk.groups) (slice_set us c.args.group.now.class (slice_index us c.args.group.now.class - (c.from.result + 1)))) (sym (ap (λ (s : State g.row.M.Denot g.row.P.Denot). s.usage) c.self.view_is)) (uncounted g.N.Name.start (g.M.Mapper.span c.args.self.now.mapper) (g.M.Mapper.runs c.args.self.now.mapper) (g.M.Mapper.refused c.args.self.now.mapper) (ledger_of c.args.self.now) c.requires.working c.args.meta c.requires.whole c.args.group.now c.requires.group c.if-group-eq-LONE.false c.from.result c.from.ensures)
-
