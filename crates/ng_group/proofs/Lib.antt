@@ -8,10 +8,8 @@ pub mod BuildingLemmas
 pub mod MappingLemmas
 pub mod NestingLemmas
 pub mod ReturningLemmas
-pub mod HandSlotLemmas
 pub mod RecursionLemmas
 pub mod SupplyLemmas
-pub mod CallLemmas
 pub mod OpeningLemmas
 pub mod LoneLemmas
 pub mod LoneSeatLemmas

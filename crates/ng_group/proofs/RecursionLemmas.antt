@@ -1,15 +1,15 @@
 -- Metas that a call takes in hand and lets go, and what a return of a slot leaves.
-use Rattle.std.proofs.Common.{◌≡◌, ◌≢◌, ℕ, ◌+◌, ◌<◌, ◌≤◌, List, [], ◌∷◌, ◌++◌, Contains, refl, sym, ap, ◌∙◌, subst, arith}
+use Rattle.std.proofs.Common.{◌≡◌, ◌≢◌, ℕ, List, [], ◌∷◌, ◌++◌, refl, sym, subst}
 use Rattle.ng_mapper.specs.Mapping.{Span}
 use Rattle.ng_mapper.specs.Runs as mapper
 use Rattle.ng_mapper.specs.declared.refusals.Refusals.{Refusals}
 use Rattle.ng_meta.specs.Place.{IsMetaPlace}
-use Rattle.ng_shelf.specs.Stock.{Stock, free_of}
+use Rattle.ng_shelf.specs.Stock.{Stock}
 use Rattle.ng_view.specs.Lists.{Among}
 use Rattle.ng_view.specs.declared.view.Group.{Group}
 use Rattle.ng_view.specs.declared.view.Start.{Start}
 use Rattle.ng_view.specs.declared.view.View.{View}
-use Rattle.ng_ledger.specs.Metas.{IsBlankMeta, IsFreeMeta}
+use Rattle.ng_ledger.specs.Metas.{IsBlankMeta}
 use Rattle.ng_ledger.specs.Standing.{InHand, KeepsHand, Ledger}
 use Rattle.ng_ledger.proofs.HandLemmas.{hand_put_other, hand_put_was, keeps_hand-same, keeps_hand-trans}
 use Rattle.ng_ledger.proofs.MetaLemmas.{free_put}

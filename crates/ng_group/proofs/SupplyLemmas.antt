@@ -1,9 +1,7 @@
 -- What a search for a free meta leaves.
-use Rattle.std.proofs.Common.{◌≡◌, ◌≢◌, ◌⊎◌, ℕ, ◌+◌, ◌*◌, ◌<◌, ◌≤◌, List, [], ◌∷◌, ◌++◌, Contains, Some, refl, sym, ap, ◌∙◌, subst, ⊎_elim, inl, inr, arith}
+use Rattle.std.proofs.Common.{◌≡◌, ◌⊎◌, ℕ, ◌+◌, ◌*◌, ◌<◌, ◌≤◌, List, [], ◌∷◌, Contains, Some, refl, sym, ap, ◌∙◌, subst, ⊎_elim, inl, inr, arith}
 use Rattle.std.specs.List.{slice_get}
-use Rattle.ng_build.specs.Areas.{with_runs}
-use Rattle.ng_build.specs.Cells.{OnlyCells, knowing}
-use Rattle.ng_lock_moves.specs.Notes.{IsNewRun, NotesRefusal, excuse_of_call}
+use Rattle.ng_lock_moves.specs.Notes.{excuse_of_call}
 use Rattle.ng_mapper.specs.Mapping.{Span}
 use Rattle.ng_mapper.specs.Runs as mapper
 use Rattle.ng_mapper.specs.declared.refusals.Refusals.{Refusals}
@@ -18,12 +16,12 @@ use Rattle.ng_ledger.specs.Carriers.{AreCarried, AreNested}
 use Rattle.ng_ledger.specs.Groups.{AreGroups}
 use Rattle.ng_ledger.specs.Rings.{AreRinged, IsBare}
 use Rattle.ng_ledger.specs.Runs.{AreFounded}
-use Rattle.ng_ledger.specs.Standing.{InHand, KeepsHand, Ledger}
+use Rattle.ng_ledger.specs.Standing.{KeepsHand, Ledger}
 use Rattle.ng_ledger.specs.Usage.{AreUsed}
 use Rattle.ng_ledger.proofs.AreaLemmas.{IsOfArea}
 use Rattle.ng_ledger.proofs.ElementLemmas.{contains_get}
 use Rattle.ng_ledger.proofs.MetaLemmas.{of_area, stock_area}
-use Rattle.ng_supply.specs.Metas.{AddsArea, FindsMeta, IsHeapStock, TakesNext, TakesOfArea}
+use Rattle.ng_supply.specs.Metas.{FindsMeta, IsHeapStock, TakesNext, TakesOfArea}
 use Rattle.ng_supply.specs.Runs.{IsHeapMapper, RefusesRun}
 use Rattle.ng_group.specs.States.{IsWorking}
 use Rattle.ng_group.specs.Steps.{GoesOn, LeavesBelow}

@@ -1,8 +1,7 @@
 -- What a call builds, and when it asks the mapper for pages.
-use Rattle.std.specs.Prelude.{◌≡◌, ◌⊎◌, ℕ, ◌+◌, ◌*◌, ◌<◌, ◌≤◌, ◌∷◌, ◌++◌, [], List, cond, length, slice_index, true, false}
+use Rattle.std.specs.Prelude.{◌≡◌, ◌⊎◌, ℕ, ◌+◌, ◌*◌, ◌<◌, ◌≤◌, ◌∷◌, ◌++◌, [], List, length, true, false}
 use Rattle.ng_class.specs.Class.{IsLeastClass, units_of}
 use Rattle.ng_lists.specs.Rings.{ring_of}
-use Rattle.ng_policy.specs.Bounce.{Bounces}
 use Rattle.ng_policy.specs.declared.ask.Ask.{Ask}
 use Rattle.ng_serve.specs.Reads.{IsBareIn}
 use Rattle.ng_shelf.specs.Shape.{IsNestedSize, shape_of}

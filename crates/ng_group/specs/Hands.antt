@@ -1,10 +1,8 @@
 -- What a hand comes to have by a call of the core.
-use Rattle.std.specs.Prelude.{◌≡◌, ℕ, ◌+◌, ◌<◌, ◌≤◌, List, [], ◌∷◌, Some}
+use Rattle.std.specs.Prelude.{◌≡◌, ℕ, ◌+◌, ◌≤◌, List, [], ◌∷◌, Some}
 use Rattle.ng_lock_moves.specs.Notes.{excuse_of_call}
 use Rattle.ng_view.specs.Blocks.{Knows}
-use Rattle.ng_view.specs.Places.{room}
-use Rattle.ng_view.specs.Lists.{find}
-use Rattle.ng_view.specs.Steps.{in_motion, popped, with_excuse}
+use Rattle.ng_view.specs.Steps.{popped, with_excuse}
 use Rattle.ng_view.specs.declared.view.Group.{Group}
 use Rattle.ng_view.specs.declared.view.Held.{Held}
 use Rattle.ng_view.specs.declared.view.View.{View}

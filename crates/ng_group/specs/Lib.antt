@@ -9,3 +9,4 @@ pub mod ClassFor
 pub mod Asking
 pub mod Filling
 pub mod Ending
+pub mod Tests

@@ -1,11 +1,10 @@
 -- Slots that are returned, and groups that end by it.
-use Rattle.std.specs.Prelude.{◌≡◌, ◌≢◌, ◌⊎◌, ℕ, ◌+◌, ◌*◌, ◌%◌, ◌^◌, ◌<◌, ◌≤◌, ◌∷◌, ◌++◌, ◌↔◌, [], Bool, Contains, IsTrue, List, None, Some, true, false, slice_index}
+use Rattle.std.specs.Prelude.{◌≡◌, ◌≢◌, ◌⊎◌, ℕ, ◌+◌, ◌*◌, ◌%◌, ◌^◌, ◌<◌, ◌≤◌, ◌∷◌, ◌++◌, ◌↔◌, [], Bool, Contains, IsTrue, None, Some, true, false, slice_index}
 use Rattle.ng_class.specs.Class.{units_of}
 use Rattle.ng_class.specs.Mask.{FillsGroup}
 use Rattle.ng_class.specs.Slot.{stride_of}
-use Rattle.ng_lists.specs.Rings.{RingTable, IsListed}
-use Rattle.ng_mask.specs.Fetches.{Captures, OfGroup}
-use Rattle.ng_policy.specs.Bounce.{Bounces, IsBouncing}
+use Rattle.ng_mask.specs.Fetches.{Captures}
+use Rattle.ng_policy.specs.Bounce.{IsBouncing}
 use Rattle.ng_policy.specs.declared.ask.Spare.{Spare}
 use Rattle.ng_view.specs.LockSteps.{outside}
 use Rattle.ng_view.specs.Lists.{Among, find}
@@ -77,8 +76,8 @@ pub record TakesWhole {M P : Type 0} (keeps : Spare → Bool → Type 0) (before
   pub between : View
   pub reads : ReadsBoth before.seat meta freed avail between
   pub ends : (FillsGroup avail freed index found.last × MayGo keeps before meta found
-        × ((captured_avail : ℕ) × (captured_freed : ℕ) × (w : View) × Captures between meta captured_avail captured_freed w
-            × (IsTrue answer ↔ FillsGroup captured_avail captured_freed index found.last)))
+      × ((captured_avail : ℕ) × (captured_freed : ℕ) × (w : View) × Captures between meta captured_avail captured_freed w
+      × (IsTrue answer ↔ FillsGroup captured_avail captured_freed index found.last)))
       ⊎ ((answer ≡ false) × ((¬ FillsGroup avail freed index found.last) ⊎ IsKept keeps before meta found))
 
 -- the meta of a group that ended has come in hand, with its cells known to be 0; the others in hand are the same

@@ -1,5 +1,5 @@
 -- Slots that are served out of a ring.
-use Rattle.std.specs.Prelude.{◌≡◌, ◌≢◌, ◌⊎◌, ℕ, ◌+◌, ◌<◌, ◌≤◌, ◌∷◌, [], Contains, List}
+use Rattle.std.specs.Prelude.{◌≡◌, ◌≢◌, ◌⊎◌, ℕ, ◌+◌, ◌<◌, ◌≤◌, ◌∷◌, [], List}
 use Rattle.ng_lists.specs.Rings.{ring_of}
 use Rattle.ng_serve.specs.Reads.{IsBareIn}
 use Rattle.ng_view.specs.Lists.{Among}

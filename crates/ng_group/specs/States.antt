@@ -1,5 +1,5 @@
 -- What contracts see of a core, and what holds of it.
-use Rattle.std.specs.Prelude.{◌≡◌, ℕ, ◌<◌, ◌≤◌, true, [], List}
+use Rattle.std.specs.Prelude.{◌≡◌, ℕ, ◌≤◌, true, [], List}
 use Rattle.ng_lists.specs.Rings.{RingTable}
 use Rattle.ng_mapper.specs.Mapping.{Span}
 use Rattle.ng_mapper.specs.Runs as mapper

@@ -1,5 +1,5 @@
 -- What a call of the core leaves as it was.
-use Rattle.std.specs.Prelude.{◌≡◌, ◌≢◌, ℕ, ◌+◌, ◌<◌, ◌∷◌, ◌++◌, List, slice_index}
+use Rattle.std.specs.Prelude.{◌≡◌, ◌≢◌, ℕ, ◌<◌, ◌∷◌, ◌++◌, List, slice_index}
 use Rattle.ng_lists.specs.Rings.{ring_of}
 use Rattle.ng_lock_moves.specs.Notes.{excuse_of_call}
 use Rattle.ng_mapper.specs.declared.refusals.Refusals.{Refusals}

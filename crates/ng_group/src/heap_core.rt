@@ -99,94 +99,11 @@ impl<N: Name, M: Mapper, P: Rules> Core<N, M, P> {
         self.works.mapper.live_pages()
     }
 
-    /// Gets a slot of a class for a hand, with room for `bytes` and 4: of the first group in the ring of the class, or of
-    /// another there, or of a new one. The excuse of a refused map call comes instead.
-    pub fn alloc_slot(
-        &mut self,
-        space: &Space<N>,
-        hand: &mut Hand<N>,
-        class: u32,
-        bytes: u64,
-    ) -> Result<Slot<N>, Excuse<N>>
-        requires class { class < 48 }
-        requires bytes { bytes + 4 ≤ 16 * units_of class }
-        ensures slot { IfOk result (IsSlotFor class bytes hand.new) }
-        ensures gains { IfOk result (λ slot. GainsSlot slot.meta slot.index hand.old.view hand.new.view) }
-        ensures calm { OnOk result (M.refused self.new.mapper ≡ M.refused self.old.mapper) }
-        ensures excuse { IfErr result (HasExcuse hand.new) }
-        ensures excused { IfErr result (λ excuse. GainsExcuse excuse.number hand.old.view hand.new.view) }
-        ensures number_is { IfErr result (λ excuse. excuse.number ≡ (M.refused self.new.mapper).count) }
-        ensures rose { OnErr result (Rose (M.refused self.old.mapper).count (M.refused self.new.mapper).count) }
-        ensures on { GoesOn self.old.seat self.new.seat }
-        ensures rules { self.new.rules ≡ self.old.rules }
-        ensures number { hand.new.number ≡ hand.old.number }
-        ensures spare { hand.new.spare ≡ hand.old.spare }
-        ensures entries { hand.new.entries ≡ hand.old.entries }
-    {
-        if let Some(first) = self.works.rings.first(class) {
-            match pop(space, hand, first, class) {
-                Pop::Won(slot) => return Ok(slot),
-                Pop::Bare | Pop::Other { tag: _ } | Pop::Lost => {}
-            }
-        }
-        match self.works.seat_slot(space, class, bytes) {
-            Ok((meta, index)) => {
-                Ok(space.slot_to_hand(&mut self.works.seat, hand, meta, index))
-            }
-            Err(number) => Err(space.excuse_to_hand(&mut self.works.seat, hand, number)),
-        }
-    }
-
-    /// Gets a slot that is a group by itself for a hand, for a block of so many bytes. The excuse of a refused map call
-    /// comes instead.
-    pub fn alloc_lone(
-        &mut self,
-        space: &Space<N>,
-        hand: &mut Hand<N>,
-        bytes: u64,
-    ) -> Result<Slot<N>, Excuse<N>>
-        requires large { 131052 ≤ bytes }
-        requires bytes { bytes < 9223372036854771711 }
-        ensures slot { IfOk result (IsSlotFor 63 bytes hand.new) }
-        ensures gains { IfOk result (λ slot. GainsSlot slot.meta slot.index hand.old.view hand.new.view) }
-        ensures calm { OnOk result (M.refused self.new.mapper ≡ M.refused self.old.mapper) }
-        ensures excuse { IfErr result (HasExcuse hand.new) }
-        ensures excused { IfErr result (λ excuse. GainsExcuse excuse.number hand.old.view hand.new.view) }
-        ensures number_is { IfErr result (λ excuse. excuse.number ≡ (M.refused self.new.mapper).count) }
-        ensures rose { OnErr result (Rose (M.refused self.old.mapper).count (M.refused self.new.mapper).count) }
-        ensures on { GoesOn self.old.seat self.new.seat }
-        ensures rules { self.new.rules ≡ self.old.rules }
-        ensures number { hand.new.number ≡ hand.old.number }
-        ensures spare { hand.new.spare ≡ hand.old.spare }
-        ensures entries { hand.new.entries ≡ hand.old.entries }
-    {
-        match self.works.seat_lone(space, bytes) {
-            Ok(meta) => Ok(space.slot_to_hand(&mut self.works.seat, hand, meta, 0)),
-            Err(number) => Err(space.excuse_to_hand(&mut self.works.seat, hand, number)),
-        }
-    }
-
-    /// Takes a slot back from a hand. Its group is torn down where all of its slots are back then and it may go.
-    pub fn return_slot(&mut self, space: &Space<N>, hand: &mut Hand<N>, slot: Slot<N>)
-        requires slot { HasSlot hand.old slot }
-        ensures view { hand.new.view ≡ pushed hand.old.view slot.meta slot.index }
-        ensures calm { M.refused self.new.mapper ≡ M.refused self.old.mapper }
-        ensures on { GoesOn self.old.seat self.new.seat }
-        ensures rules { self.new.rules ≡ self.old.rules }
-        ensures number { hand.new.number ≡ hand.old.number }
-        ensures spare { hand.new.spare ≡ hand.old.spare }
-        ensures entries { hand.new.entries ≡ hand.old.entries }
-    {
-        let (meta, index) = (slot.meta(), slot.index());
-        space.slot_to_seat(hand, &mut self.works.seat, slot);
-        let group = group_of(space, &mut self.works.seat, meta);
-        self.works.seat_return(space, meta, index, &group);
-    }
-
     /// Ends the core: the seat and the mapper come back. Each noted run is an area or that of a live group, and the metas
     /// without a live group are known to be 0.
     pub fn close(self) -> (LockSeat<N>, M)
-        where P: Drop
+    where
+        P: Drop,
         ensures seat { result.0 ≡ self.seat }
         ensures mapper { result.1 ≡ self.mapper }
         ensures settled { IsSettled self.seat }

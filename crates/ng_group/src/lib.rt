@@ -16,6 +16,4 @@ pub use heap_core::Core;
 pub use tables::Tables;
 
 #[cfg(test)]
-mod random_tests;
-#[cfg(test)]
 mod tests;

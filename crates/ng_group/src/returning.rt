@@ -33,29 +33,6 @@ const AVAIL: u64 = 24;
 const FREED: u64 = 28;
 
 impl<N: Name, M: Mapper, P: Rules> Works<N, M, P> {
-    /// Returns the slot in the seat to its group, whose numbers are given. The group is torn down where all of its slots
-    /// are back then and it may go, and so may be the one around it.
-    pub(crate) fn seat_return(&mut self, space: &Space<N>, meta: u64, index: u32, group: &LiveGroup)
-        requires working { Working N.start M.span M.runs M.refused self.old }
-        requires slot { HasReturned self.old.seat meta index }
-        requires group { OfGroup self.old.seat meta (Describes group.now) }
-        ensures working { Working N.start M.span M.runs M.refused self.new }
-        ensures on { GoesOn self.old.seat self.new.seat }
-        ensures hand { KeepsHand (ledger_of self.old) (ledger_of self.new) }
-        ensures calm { IsCalm self.old.seat self.new.seat (M.refused self.old.mapper) (M.refused self.new.mapper) }
-        ensures idle { self.new.seat.held ≡ [] }
-        ensures rules { self.new.rules ≡ self.old.rules }
-    {
-        if !self.take_whole(space, meta, index, group) {
-            return;
-        }
-        if let Some((parent, place)) = self.end_group(space, meta, group) {
-            let carrying = group_of(space, &mut self.seat, parent);
-            self.seat_return(space, parent, place, &carrying);
-        }
-        self.stock.put(meta);
-    }
-
     // Puts the slot in the seat back into its group; or, where the group has all of its slots then and may go, takes
     // them all into the seat, and answers so.
     fn take_whole(&mut self, space: &Space<N>, meta: u64, index: u32, group: &LiveGroup) -> bool

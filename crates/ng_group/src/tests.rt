@@ -1,7 +1,11 @@
+ghost use Rattle.std.specs.Prelude.{◌≡◌, ◌∷◌, []};
+ghost use Rattle.ng_group.specs.Opening.{AreEmpty, IsFreshMapper};
+ghost use Rattle.ng_group.specs.Tests.{test_start};
+
 use crate::{Core, Tables};
 use ng_mapper::{FirstFit, Mapper};
-use ng_policy::{Ask, Kept, Policy, Rules, Spare, musl_count, musl_keep};
-use ng_space::{Blank, Hand, Name, Slot, Space, Start};
+use ng_policy::{Kept, Policy, Rules, musl_count, musl_keep};
+use ng_space::{Blank, Name, Space, Start};
 use std::alloc::Global;
 use std::marker::Brand;
 use std::process::Abort;
@@ -9,7 +13,9 @@ use std::test::Fail;
 
 const PAGES: u64 = 4096;
 
-pub(crate) fn start() -> Start {
+fn start() -> Start
+    ensures { result ≡ test_start }
+{
     Start {
         pages: PAGES,
         lower: 0x1000,
@@ -21,57 +27,37 @@ pub(crate) fn start() -> Start {
 }
 
 #[test]
-fn four_slots_come_and_go(rt: HostRuntime) -> Result<(), Fail> {
+fn a_core_opens_and_closes(rt: HostRuntime) -> Result<(), Fail> {
     let alloc = rt.alloc();
     let blank = Blank::new(alloc, start(), &[4])?;
     let tables = Tables::new(alloc, PAGES as u32)?;
     let mapper = FirstFit::new(alloc, PAGES as u32, Vec::new(alloc))?;
     let rules = Kept::new(Policy::new(musl_count, musl_keep));
-    serve_four::<Brand, _, _, _>(&rt, alloc, blank, tables, mapper, rules)
+    open_once::<Brand, _, _, _>(&rt, alloc, blank, tables, mapper, rules)
 }
 
-fn serve_four<N: Name, M: Mapper + Drop, P: Rules + Drop, R: Abort>(
+fn open_once<N: Name, M: Mapper + Drop, P: Rules + Drop, R: Abort>(
     rt: &R,
     alloc: Global,
     blank: Blank,
     tables: Tables,
     mapper: M,
     rules: Kept<P>,
-) -> Result<(), Fail> {
-    let (space, lock, mut hands) = Space::<N>::open(alloc, blank)?;
+) -> Result<(), Fail>
+    requires table { blank.table ≡ N.table }
+    requires start { blank.start ≡ N.start }
+    requires named { N.start ≡ test_start }
+    requires rooms { blank.rooms ≡ 4 ∷ [] }
+    requires tables { AreEmpty 4096 tables }
+    requires mapper { IsFreshMapper test_start (M.span mapper) (M.runs mapper) (M.refused mapper) }
+{
+    let (space, lock, _hands) = Space::<N>::open(alloc, blank)?;
     let mut core = Core::open(&space, lock, tables, mapper, rules);
-    let hand = &mut hands[0];
-    let class = core.class_for(&space, 20);
-    assert_eq!(rt; class, 1);
-    let first = served(rt, &space, &mut core, hand, 0x2040);
-    let second = served(rt, &space, &mut core, hand, 0x2060);
-    let third = served(rt, &space, &mut core, hand, 0x2080);
-    let fourth = served(rt, &space, &mut core, hand, 0x20a0);
-    assert_eq!(rt; core.live_pages(), 2);
-    core.return_slot(&space, hand, first);
-    core.return_slot(&space, hand, second);
-    core.return_slot(&space, hand, third);
-    core.return_slot(&space, hand, fourth);
-    assert_eq!(rt; core.live_pages(), 1);
+    assert_eq!(rt; core.class_for(&space, 20), 1);
+    assert_eq!(rt; core.class_for(&space, 61), 5);
+    assert!(rt; core.active(1).is_none());
+    assert_eq!(rt; core.counter(), 0);
+    assert_eq!(rt; core.live_pages(), 0);
+    let (_lock, _mapper) = core.close();
     Ok(())
-}
-
-// A slot of class 1, which starts there.
-fn served<N: Name, M: Mapper, P: Rules, R: Abort>(
-    rt: &R,
-    space: &Space<N>,
-    core: &mut Core<N, M, P>,
-    hand: &mut Hand<N>,
-    start: u64,
-) -> Slot<N> {
-    match core.alloc_slot(space, hand, 1, 20) {
-        Ok(slot) => {
-            assert_eq!(rt; slot.start(), start);
-            slot
-        }
-        Err(excuse) => {
-            space.enter_no_memory(hand, 20, excuse);
-            panic!(rt; "no slot")
-        }
-    }
 }
