@@ -1,0 +1,5 @@
+pub mod Keeps
+pub mod Slots
+pub mod Bytes
+pub mod Frames
+pub mod Trailers
