@@ -1,9 +1,10 @@
 -- What loads, stores and gives leave of the slots in a view.
 use Rattle.std.proofs.Common.{◌≡◌, ◌≢◌, ◌⊎◌, ℕ, ◌-◌, ◌+◌, eqb, cond, Bool, true, false, List, [], ◌∷◌, ◌++◌, refl, sym, ap, ◌∙◌, subst, ⊎_elim, inl, inr, arith}
 use Rattle.std.proofs.lemmas.List.{append-nil, append_assoc}
-use Rattle.std.specs.Prelude.{Option, Some}
+use Rattle.std.specs.Prelude.{◌%◌, Option, Some, None}
 use Rattle.ng_terms.specs.declared.entry.Extent.{Extent}
 use Rattle.ng_terms.specs.declared.entry.Entry.{Entry}
+use Rattle.ng_terms.specs.declared.entry.Entry.TheVariants.{Take}
 use Rattle.ng_geometry.proofs.Lists.{find_edit, is_at-true}
 use Rattle.ng_moves.proofs.Load.{still_knows}
 use Rattle.ng_view.specs.Blocks.{Knows}
@@ -13,6 +14,7 @@ use Rattle.ng_view.specs.Steps.{booked_block, learnt, loaded, stored, with_block
 use Rattle.ng_view.specs.declared.view.Held.{Held}
 use Rattle.ng_view.specs.declared.view.Place.{Place}
 use Rattle.ng_view.specs.declared.view.View.{View}
+use Rattle.ng_space.specs.Blocks.{BlockToken, Kills}
 use Rattle.ng_space.specs.Tokens.{Token}
 use Rattle.ng_space.proofs.Holding.{find-loaded}
 use Rattle.ng_frame.specs.Keeps.{IsOther, KeepsAll, KeepsCells, KeepsOthers, KeepsRest, Learns, Stays}
@@ -146,3 +148,12 @@ all_itself v = record {
   slots = λ m i h found. (h, found, learns_itself h);
   rest = record { excuses = refl; sent = refl; taken = refl; more = []; readings = sym (append-nil v.readings) };
 }
+
+-- a block is ended
+pub kills_others : (v w : View) (block : BlockToken) (k : ℕ) → Kills v block k w → KeepsOthers block.slot v w
+kills_others v w block k kills =
+    let slot = block.slot in
+    let one : View = loaded v (block.at - 4) kills.header in
+    let two : View = booked_block one slot.meta slot.index None k (Take block.at) in
+    others_then slot v one w (loaded_others slot v one (block.at - 4) kills.header refl)
+    (others_then slot one two w (booked_others slot one two None k (Take block.at) refl) (stored_others slot two w (block.at - 4) (kills.header % 256 + 65280) kills.view))

@@ -3,3 +3,4 @@ pub mod Slots
 pub mod Bytes
 pub mod Frames
 pub mod Trailers
+pub mod Lengths

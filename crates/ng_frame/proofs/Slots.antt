@@ -5,14 +5,18 @@ use Rattle.std.proofs.Math.Nat.{mod-le}
 use Rattle.std.proofs.lemmas.Bool.{cases_eq}
 use Rattle.std.proofs.lemmas.Bool.Decides.{nat_tests}
 use Rattle.ng_header.specs.Cycle.{cycle_of, next_offset, power_above, wrapped}
-use Rattle.ng_class.specs.Slot.{IsGroupClass}
-use Rattle.ng_class.proofs.Slots.{room_of-le, stride_of_least, stride_of_several}
+use Rattle.ng_class.specs.Class.{units_of}
+use Rattle.ng_class.specs.Slot.{IsGroupClass, IsLoneGroup, stride_of}
+use Rattle.ng_class.proofs.Classes.{units_of_le}
+use Rattle.ng_class.proofs.Slots.{room_of-le, stride_of_either, stride_of_least, stride_of_several, stride_of_single}
 use Rattle.ng_geometry.proofs.Lists.{find_among}
 use Rattle.ng_geometry.proofs.Strides.{stride_whole, times_whole}
 use Rattle.ng_view.specs.Layouts.{IsKind, IsLoneKind, IsSmallKind}
 use Rattle.ng_view.specs.Places.{room, stride, units}
 use Rattle.ng_view.specs.Tells.{Tells}
 use Rattle.ng_view.specs.declared.view.Group.{Group}
+use Rattle.ng_view.specs.declared.view.Held.{Held}
+use Rattle.ng_view.specs.declared.view.Place.{Place}
 use Rattle.ng_view.specs.declared.view.Start.{Start}
 use Rattle.ng_space.specs.Blocks.{offset_in}
 use Rattle.ng_space.specs.Callers.{Caller}
@@ -32,24 +36,41 @@ several : (g : Group) → 0 < g.last → stride g ≡ 16 * units g.tag
 unfolding stride
 several g some_more = stride_of_several (g.tag - 1) g.last g.maplen some_more
 
-pub whole : (key : Start) (hand : Caller) (slot : Token) → HasSlot hand slot → ArePlaced key hand.view → IsWhole slot
-whole key hand slot has placed =
-    let l = placed has.held (find_among slot.meta slot.index hand.view.held has.held has.found).0 in
-    let g = has.held.place.group in
-    let i : ℕ = has.held.place.index in
+pub whole_at : (key : Start) (h : Held) (slot : Token) → LiesIn key h.place → LiesAt h.place slot → IsWhole slot
+whole_at key h slot l place =
+    let g = h.place.group in
+    let i : ℕ = h.place.index in
     let s : ℕ = stride g in
     let least : 16 ≤ s = stride-least g l.class in
     let most : room g ≤ s = room-le g in
     let whole : s % 16 ≡ 0 = stride_whole g in
     let times : s * i % 16 ≡ 0 = times_whole s i whole in
     let base = l.whole in
-    let start = has.place.start in let end = has.place.end in let room = has.place.room in record {
+    let start = place.start in let end = place.end in let room = place.room in record {
       start = omega arith;
       end = omega arith;
       front = omega arith;
       some = omega arith;
       room = omega arith;
     }
+
+pub whole : (key : Start) (hand : Caller) (slot : Token) → HasSlot hand slot → ArePlaced key hand.view → IsWhole slot
+whole key hand slot has placed =
+    whole_at key has.held slot (placed has.held (find_among slot.meta slot.index hand.view.held has.held has.found).0) has.place
+
+-- a stride is a number of 32 bits
+pub stride-most : (key : Start) (p : Place) → LiesIn key p → stride p.group < 4294967296
+unfolding stride
+stride-most key p l =
+    let g = p.group in
+    let few = l.few in
+    ⊎_elim
+    (λ (run : (1 ≤ g.maplen) × (stride_of (g.tag - 1) g.last g.maplen ≡ g.maplen * 4096 - 16)). let is = run.1 in omega (arith, few, is))
+    (λ (size : stride_of (g.tag - 1) g.last g.maplen ≡ 16 * units_of (g.tag - 1)). ⊎_elim
+    (λ (small : g.tag - 1 < 48). let most = units_of_le (g.tag - 1) small in omega (arith, size, most))
+    (λ (lone : IsLoneGroup (g.tag - 1) g.last g.maplen). let is = stride_of_single (g.tag - 1) g.last g.maplen lone.single lone.mapped in omega (arith, few, is))
+    l.class)
+    (stride_of_either (g.tag - 1) g.last g.maplen)
 
 -- an offset in a slot of a group with several
 narrow_number : (u i l o : ℕ) → i ≤ l → o < u → u * (l + 1) < 65536 → (((16 * u) * i + 16 * o) / 16) < 65536

@@ -4,9 +4,10 @@
 mod damage;
 mod offset;
 mod putting;
-
+mod taking;
 mod trailer;
+mod words;
 
-pub use damage::Damage;
+pub use damage::{Damage, find_damage};
 pub use putting::put;
-
+pub use taking::take_out;
