@@ -1,5 +1,5 @@
 -- One byte of a cell that is made 0.
-use Rattle.std.proofs.Common.{◌≡◌, ◌≢◌, ℕ, zero, suc, ◌+◌, ◌-◌, ◌*◌, ◌/◌, ◌%◌, ◌^◌, ◌<◌, ◌≤◌, refl, sym, ap, ◌∙◌, subst, ⊎_elim, inl, inr, arith}
+use Rattle.std.proofs.Common.{◌≡◌, ◌≢◌, ℕ, zero, suc, ◌-◌, ◌*◌, ◌/◌, ◌%◌, ◌^◌, ◌<◌, refl, ap, ◌∙◌, subst, ⊎_elim, inl, arith}
 use Rattle.std.proofs.lemmas.Bool.{cases_eq}
 use Rattle.ng_header.specs.Bytes.{byte_of}
 use Rattle.ng_moves.proofs.Load.{still_knows}
@@ -29,9 +29,9 @@ zero_kept h at word value y told here others k = ⊎_elim
     zero_at same = ⊎_elim
         (λ (e : y % 4 ≡ at % 4). ap (byte_of value) e ∙ here)
         (λ (ne : y % 4 ≢ at % 4).
-          let lt : y % 4 < 4 = omega arith in
-          let word_is : word ≡ k.0 = told k.0 (subst (λ a. Knows a k.0 h) same k.1) in
-          others (y % 4) lt ne ∙ byte_of-low word (y % 4) lt ∙ ap (λ w. byte_of w (y % 4)) word_is ∙ k.2)
+        let lt : y % 4 < 4 = omega arith in
+        let word_is : word ≡ k.0 = told k.0 (subst (λ a. Knows a k.0 h) same k.1) in
+        others (y % 4) lt ne ∙ byte_of-low word (y % 4) lt ∙ ap (λ w. byte_of w (y % 4)) word_is ∙ k.2)
         (cases_eq (y % 4) (at % 4))
 
 -- and the byte that is made 0 is known to be so

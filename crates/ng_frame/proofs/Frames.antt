@@ -1,23 +1,22 @@
 -- The frame that a put leaves.
-use Rattle.std.proofs.Common.{◌≡◌, ◌≢◌, ◌⊎◌, ℕ, ◌+◌, ◌-◌, ◌*◌, ◌/◌, ◌%◌, ◌<◌, ◌≤◌, List, [], ◌∷◌, ◌++◌, refl, sym, ap, ◌∙◌, subst, ⊎_elim, inl, inr, arith}
+use Rattle.std.proofs.Common.{◌≡◌, ◌≢◌, ℕ, ◌+◌, ◌-◌, ◌*◌, ◌/◌, ◌%◌, ◌<◌, ◌≤◌, List, [], ◌∷◌, ◌++◌, refl, sym, ap, ◌∙◌, subst, inl, inr, arith}
 use Rattle.std.specs.Prelude.{Some}
 use Rattle.std.proofs.lemmas.List.{append_assoc}
 use Rattle.ng_geometry.proofs.Lists.{find_among, find_edit}
 use Rattle.ng_header.specs.Bytes.{byte_of}
 use Rattle.ng_header.specs.Cycle.{cycle_of}
 use Rattle.ng_moves.proofs.Load.{still_knows}
-use Rattle.ng_terms.specs.Heap.{extent}
 use Rattle.ng_view.specs.Blocks.{Knows}
 use Rattle.ng_view.specs.Frame.{IsGiven, IsShift, IsTrailer, KnowsByte, field_of, slack_of}
 use Rattle.ng_view.specs.Lists.{find}
-use Rattle.ng_view.specs.Places.{room, slot_end, slot_start}
+use Rattle.ng_view.specs.Places.{slot_start}
 use Rattle.ng_view.specs.Steps.{given, learnt, loaded, stored, wrote}
 use Rattle.ng_view.specs.Tells.{Tells}
 use Rattle.ng_view.specs.declared.view.Held.{Held}
 use Rattle.ng_view.specs.declared.view.Place.{Place}
 use Rattle.ng_view.specs.declared.view.Start.{Start}
 use Rattle.ng_view.specs.declared.view.View.{View}
-use Rattle.ng_space.specs.Blocks.{BlockToken, HasFramed, IsReady, OfSlot, offset_in}
+use Rattle.ng_space.specs.Blocks.{HasFramed, IsReady, OfSlot, offset_in}
 use Rattle.ng_space.specs.Callers.{Caller}
 use Rattle.ng_space.specs.Tokens.{HasSlot, LiesAt, Token}
 use Rattle.ng_space.proofs.Holding.{find-loaded}

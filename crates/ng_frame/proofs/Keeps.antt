@@ -1,5 +1,5 @@
 -- What loads, stores and gives leave of the slots in a view.
-use Rattle.std.proofs.Common.{◌≡◌, ◌≢◌, ◌⊎◌, ℕ, ◌-◌, ◌+◌, eqb, cond, Bool, true, false, List, [], ◌∷◌, ◌++◌, refl, sym, ap, ◌∙◌, subst, ⊎_elim, inl, inr, arith}
+use Rattle.std.proofs.Common.{◌≡◌, ◌≢◌, ◌⊎◌, ℕ, ◌-◌, ◌+◌, cond, Bool, true, false, List, [], ◌∷◌, ◌++◌, refl, sym, ap, ◌∙◌, ⊎_elim, inr}
 use Rattle.std.proofs.lemmas.List.{append-nil, append_assoc}
 use Rattle.std.specs.Prelude.{◌%◌, Option, Some, None}
 use Rattle.ng_terms.specs.declared.entry.Extent.{Extent}
@@ -7,7 +7,6 @@ use Rattle.ng_terms.specs.declared.entry.Entry.{Entry}
 use Rattle.ng_terms.specs.declared.entry.Entry.TheVariants.{Take}
 use Rattle.ng_geometry.proofs.Lists.{find_edit, is_at-true}
 use Rattle.ng_moves.proofs.Load.{still_knows}
-use Rattle.ng_view.specs.Blocks.{Knows}
 use Rattle.ng_view.specs.Lists.{Among, edit, find, is_at}
 use Rattle.ng_view.specs.Places.{owns_at}
 use Rattle.ng_view.specs.Steps.{booked_block, learnt, loaded, stored, with_block, wrote}
@@ -17,7 +16,7 @@ use Rattle.ng_view.specs.declared.view.View.{View}
 use Rattle.ng_space.specs.Blocks.{BlockToken, Kills}
 use Rattle.ng_space.specs.Tokens.{Token}
 use Rattle.ng_space.proofs.Holding.{find-loaded}
-use Rattle.ng_frame.specs.Keeps.{IsOther, KeepsAll, KeepsCells, KeepsOthers, KeepsRest, Learns, Stays}
+use Rattle.ng_frame.specs.Keeps.{KeepsAll, KeepsCells, KeepsOthers, KeepsRest, Learns, Stays}
 
 -- ---- another slot than the one that is edited
 not_at : (m i k j : ℕ) (p : Place) → (k ≢ m) ⊎ (j ≢ i) → is_at m i p ≡ true → is_at k j p ≡ false

@@ -1,26 +1,23 @@
 -- What the words of a known frame tell, and the damage that words show.
-use Rattle.std.proofs.Common.{◌≡◌, ◌⊎◌, ℕ, ◌+◌, ◌-◌, ◌*◌, ◌/◌, ◌%◌, ◌<◌, ◌≤◌, refl, sym, ap, ◌∙◌, subst, ⊎_elim, inl, inr, arith}
+use Rattle.std.proofs.Common.{◌≡◌, ℕ, ◌-◌, ◌*◌, ◌/◌, ◌%◌, ◌<◌, ◌≤◌, sym, ap, ◌∙◌, subst, inl, inr, arith}
 use Rattle.std.specs.Prelude.{min, Result, Ok, Err}
-use Rattle.std.proofs.lemmas.Bool.{cases_lt}
 use Rattle.std.proofs.lemmas.Grind.{common_steps}
 use Rattle.ng_geometry.proofs.Lists.{find_among}
 use Rattle.ng_header.specs.Bytes.{byte_of}
 use Rattle.ng_header.specs.Reading.{reserved_by}
 use Rattle.ng_view.specs.Blocks.{Knows}
 use Rattle.ng_view.specs.Frame.{IsTrailer, KnowsByte}
-use Rattle.ng_view.specs.Places.{slot_end, slot_start, stride}
+use Rattle.ng_view.specs.Places.{slot_end}
 use Rattle.ng_view.specs.Steps.{loaded}
 use Rattle.ng_view.specs.Tells.{Tells}
 use Rattle.ng_view.specs.declared.view.Held.{Held}
 use Rattle.ng_view.specs.declared.view.Start.{Start}
-use Rattle.ng_view.specs.declared.view.View.{View}
 use Rattle.ng_space.specs.Blocks.{BlockToken, HasBlock, HasFramed}
 use Rattle.ng_space.specs.Callers.{Caller}
 use Rattle.ng_space.specs.Placed.{ArePlaced}
 use Rattle.ng_space.proofs.Keeping.{loaded_framed}
-use Rattle.ng_frame.specs.Inspects.{Inspects, IsBad, IsOver, TellLength, fifth_in, field_in, looked, mark_at, number_in, tail_of}
+use Rattle.ng_frame.specs.Inspects.{IsBad, TellLength, field_in, mark_at, number_in, tail_of}
 use Rattle.ng_frame.specs.Keeps.{IsWhole}
-use Rattle.ng_frame.specs.declared.damage.Damage.TheVariants.{BadReserved, Overrun}
 use Rattle.ng_frame.specs.declared.words.Words.{Words}
 use Rattle.ng_frame.proofs.Slots.{stride-most, whole_at}
 

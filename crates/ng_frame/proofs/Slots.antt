@@ -1,5 +1,5 @@
 -- Where a slot of a hand lies, by what a load tells.
-use Rattle.std.proofs.Common.{◌≡◌, ◌≢◌, ◌⊎◌, ℕ, suc, ◌+◌, ◌-◌, ◌*◌, ◌/◌, ◌%◌, ◌<◌, ◌≤◌, mul-le-mul_left, refl, sym, ap, ◌∙◌, subst, ⊎_elim, inl, inr, arith}
+use Rattle.std.proofs.Common.{◌≡◌, ◌≢◌, ℕ, suc, ◌+◌, ◌-◌, ◌*◌, ◌/◌, ◌%◌, ◌<◌, ◌≤◌, mul-le-mul_left, ap, ◌∙◌, ⊎_elim, arith}
 use Rattle.std.specs.Prelude.{Option, Some, None}
 use Rattle.std.proofs.Math.Nat.{mod-le}
 use Rattle.std.proofs.lemmas.Bool.{cases_eq}
@@ -11,7 +11,7 @@ use Rattle.ng_class.proofs.Classes.{units_of_le}
 use Rattle.ng_class.proofs.Slots.{room_of-le, stride_of_either, stride_of_least, stride_of_several, stride_of_single}
 use Rattle.ng_geometry.proofs.Lists.{find_among}
 use Rattle.ng_geometry.proofs.Strides.{stride_whole, times_whole}
-use Rattle.ng_view.specs.Layouts.{IsKind, IsLoneKind, IsSmallKind}
+use Rattle.ng_view.specs.Layouts.{IsLoneKind, IsSmallKind}
 use Rattle.ng_view.specs.Places.{room, stride, units}
 use Rattle.ng_view.specs.Tells.{Tells}
 use Rattle.ng_view.specs.declared.view.Group.{Group}
@@ -92,18 +92,18 @@ narrow key hand slot a x o has tells low fits =
     let most : Rattle.ng_view.specs.Places.room g ≤ stride g = room-le g in
     ⊎_elim
     (λ (none : g.last ≡ 0).
-      let zero : i ≡ 0 = omega arith in
-      let none_at : stride g * 0 ≡ 0 = omega arith in
-      let times : stride g * i ≡ 0 = ap (λ n. stride g * n) zero ∙ none_at in
-      omega (arith, times))
+    let zero : i ≡ 0 = omega arith in
+    let none_at : stride g * 0 ≡ 0 = omega arith in
+    let times : stride g * i ≡ 0 = ap (λ n. stride g * n) zero ∙ none_at in
+    omega (arith, times))
     (λ (ne : g.last ≢ 0). ⊎_elim
-      (λ (k : IsSmallKind g).
-        let size = several g (omega arith) in
-        let times : stride g * i ≡ (16 * units g.tag) * i = ap (λ s. s * i) size in
-        let n = narrow_number (units g.tag) i g.last o index (omega (arith, size, most)) k.fits in
-        omega (arith, times, n))
-      (λ (k : IsLoneKind g). absurd (ne k.single))
-      t.kind)
+    (λ (k : IsSmallKind g).
+    let size = several g (omega arith) in
+    let times : stride g * i ≡ (16 * units g.tag) * i = ap (λ s. s * i) size in
+    let n = narrow_number (units g.tag) i g.last o index (omega (arith, size, most)) k.fits in
+    omega (arith, times, n))
+    (λ (k : IsLoneKind g). absurd (ne k.single))
+    t.kind)
     (cases_eq g.last 0)
 
 -- the cell in front of the slot's start

@@ -1,5 +1,5 @@
 -- The cells of a trailer are apart, and none is in front of the slot's start.
-use Rattle.std.proofs.Common.{◌≡◌, ◌≢◌, ℕ, ◌+◌, ◌-◌, ◌*◌, ◌/◌, ◌%◌, ◌<◌, ◌≤◌, arith}
+use Rattle.std.proofs.Common.{◌≡◌, ◌≢◌, ℕ, ◌+◌, ◌-◌, ◌*◌, ◌/◌, ◌<◌, ◌≤◌, arith}
 use Rattle.ng_space.specs.Tokens.{Token}
 use Rattle.ng_frame.specs.Keeps.{IsWhole}
 

@@ -1,5 +1,5 @@
 -- The damage of a block's frame, by the words that were read of it.
-use Rattle.std.specs.Prelude.{◌≡◌, ◌↔◌, ℕ, ◌+◌, ◌-◌, ◌*◌, ◌/◌, ◌%◌, ◌≤◌, min, Option, Some, None}
+use Rattle.std.specs.Prelude.{◌≡◌, ◌↔◌, ℕ, ◌-◌, ◌*◌, ◌/◌, ◌%◌, ◌≤◌, min, Option, Some, None}
 use Rattle.ng_header.specs.Bytes.{byte_of}
 use Rattle.ng_header.specs.Reading.{IsBadReserved, IsOverrun, reserved_by}
 use Rattle.ng_view.specs.Steps.{loaded}

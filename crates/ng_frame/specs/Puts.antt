@@ -1,7 +1,6 @@
 -- What a put finds and leaves.
-use Rattle.std.specs.Prelude.{◌≡◌, ℕ, ◌+◌, ◌-◌, ◌/◌, ◌%◌, ◌++◌, List, ◌∷◌}
+use Rattle.std.specs.Prelude.{◌≡◌, ℕ, ◌-◌, ◌/◌, ◌%◌, ◌++◌, List, ◌∷◌}
 use Rattle.ng_header.specs.Cycle.{cycle_of}
-use Rattle.ng_view.specs.Blocks.{Knows}
 use Rattle.ng_view.specs.Frame.{IsGiven, field_of}
 use Rattle.ng_view.specs.Steps.{loaded}
 use Rattle.ng_view.specs.declared.view.View.{View}

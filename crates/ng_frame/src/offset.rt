@@ -54,12 +54,7 @@ fn kept_field(header: u32) -> Option<u32>
 }
 
 // Where the block doesn't begin at the slot's start, the header cell there gets its offset.
-pub(crate) fn store_mark<N: Name>(
-    space: &Space<N>,
-    hand: &mut Hand<N>,
-    slot: &Slot<N>,
-    offset: u64,
-)
+pub(crate) fn store_mark<N: Name>(space: &Space<N>, hand: &mut Hand<N>, slot: &Slot<N>, offset: u64)
     requires slot { HasSlot hand.old slot.now }
     requires whole { IsWhole slot.now }
     requires small { offset < 256 }

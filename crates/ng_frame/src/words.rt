@@ -17,11 +17,7 @@ pub(crate) struct Words {
     pub(crate) fifth: u64,
 }
 
-pub(crate) fn read_words<N: Name>(
-    space: &Space<N>,
-    hand: &mut Hand<N>,
-    block: &Block<N>,
-) -> Words
+pub(crate) fn read_words<N: Name>(space: &Space<N>, hand: &mut Hand<N>, block: &Block<N>) -> Words
     requires block { HasBlock hand.old block.now }
     ensures view { hand.new.view ≡ looked hand.old.view block.now result }
     ensures whole { block.now.slot.end % 16 ≡ 12 }

@@ -1,4 +1,4 @@
-use Rattle.std.proofs.Common.{◌≡◌, ℕ, ◌+◌, ◌-◌, ◌*◌, ◌/◌, ◌%◌, ◌<◌, ap, ◌∙◌, subst}
+use Rattle.std.proofs.Common.{◌≡◌, ◌+◌, ◌-◌, ◌*◌, ◌/◌, ◌%◌, ◌<◌, ap, ◌∙◌, subst}
 use Rattle.ng_header.specs.Bytes.{byte_of}
 use Rattle.ng_header.proofs.TailLemmas.{nominal_in-trailer}
 use Rattle.ng_space.proofs.Keeping.{loaded_framed}

@@ -1,4 +1,4 @@
-use Rattle.std.proofs.Common.{◌≡◌, ℕ, ◌+◌, ◌-◌, ◌*◌, ◌/◌, ◌%◌, ◌<◌, ◌≤◌, refl, sym, ap, ◌∙◌, subst, arith}
+use Rattle.std.proofs.Common.{ℕ, ◌-◌, ◌/◌, ap, ◌∙◌, arith}
 use Rattle.ng_view.specs.Steps.{loaded}
 use Rattle.ng_frame.proofs.Keeps.{loaded_others, stays_loaded}
 use Rattle.ng_header.specs.Cycle.{cycle_of}

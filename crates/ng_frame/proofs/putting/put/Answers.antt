@@ -1,4 +1,4 @@
-use Rattle.std.proofs.Common.{◌≡◌, ℕ, ◌+◌, ◌-◌, ◌*◌, ◌<◌, ◌≤◌, refl, sym, ap, ◌∙◌, subst, arith}
+use Rattle.std.proofs.Common.{ℕ, ◌+◌, ◌-◌, ◌*◌, sym, ap, subst}
 use Rattle.ng_view.specs.Frame.{IsTrailer}
 use Rattle.ng_space.specs.Blocks.{HasFramed, OfSlot}
 use Rattle.ng_frame.specs.Puts.{Puts}

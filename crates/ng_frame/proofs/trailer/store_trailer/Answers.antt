@@ -1,4 +1,4 @@
-use Rattle.std.proofs.Common.{◌≡◌, ◌≢◌, ℕ, ◌+◌, ◌-◌, ◌*◌, ◌/◌, ◌<◌, ◌≤◌, arith}
+use Rattle.std.proofs.Common.{◌≢◌, ℕ, ◌-◌, ◌*◌, ◌/◌, ◌<◌, arith}
 use Rattle.ng_frame.proofs.Frames.{knows_still, long_trailer, short_trailer, stored_byte, stored_knows}
 use Rattle.ng_frame.proofs.Keeps.{others_then, stays_stored, stays_then, stored_others}
 use Rattle.ng_frame.proofs.Trailers.{before_first, before_last, cells_apart, fifth_apart}
@@ -40,8 +40,12 @@ pub returns-else-reserved-ge5-clause-own : goal.returns-else-reserved-ge5-clause
 returns-else-reserved-ge5-clause-own g c =
     let slot = c.args.slot.now in
     let e : ℕ = c.end-end.result in let r : ℕ = c.args.reserved in
-    λ h found. (let k = c.clear_byte.ensures.own h found in (k.0, k.1, record {
-      place = k.2.place;
-      block = k.2.block;
-      cells = λ a x lt s. k.2.cells a x (before_first slot e r a c.end-end.ensures.end c.requires.whole c.requires.within lt) s;
-    }))
+    λ h found. (let k = c.clear_byte.ensures.own h found in (
+      k.0,
+      k.1,
+      record {
+        place = k.2.place;
+        block = k.2.block;
+        cells = λ a x lt s. k.2.cells a x (before_first slot e r a c.end-end.ensures.end c.requires.whole c.requires.within lt) s;
+      },
+    ))
