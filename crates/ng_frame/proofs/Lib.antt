@@ -4,3 +4,4 @@ pub mod Bytes
 pub mod Frames
 pub mod Trailers
 pub mod Lengths
+pub mod Tokens
