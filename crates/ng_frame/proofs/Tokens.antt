@@ -1,5 +1,5 @@
 -- The slots and blocks that a hand has besides the one that changes.
-use Rattle.std.proofs.Common.{◌≡◌, ℕ, ◌+◌, ◌-◌, ◌*◌, ◌/◌, refl, sym, ◌∙◌, subst, inl, inr}
+use Rattle.std.proofs.Common.{◌≡◌, ℕ, ◌*◌, ◌/◌, refl, sym, ◌∙◌, subst, inl, inr}
 use Rattle.ng_moves.proofs.Load.{carries_more}
 use Rattle.ng_view.specs.Frame.{Frames, IsFramed, IsShift, IsTrailer, KnowsByte}
 use Rattle.ng_view.specs.declared.view.Held.{Held}

@@ -34,9 +34,10 @@ pub(crate) fn cycled_offset<N: Name>(
     ensures spare { hand.new.spare ≡ hand.old.spare }
     ensures entries { hand.new.entries ≡ hand.old.entries }
 {
-    let end = slot.end();
     let slack = (slot.room() - 4 - n) / 16;
-    // A whole cell, which the slot's start is one of by what the load tells.
+    // A slot ends in the space, and so its cells are there.
+    let _end = slot.end();
+    // That the start is a whole cell is told by the load itself.
     let front = slot.start() / 4 * 4 - 4;
     let header = (space.load(hand, front) % (1 << 32)) as u32;
     cycle(kept_field(header), slack, counter)

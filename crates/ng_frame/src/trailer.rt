@@ -53,7 +53,8 @@ fn clear_byte<N: Name>(space: &Space<N>, hand: &mut Hand<N>, slot: &Slot<N>, at:
     ensures spare { hand.new.spare ≡ hand.old.spare }
     ensures entries { hand.new.entries ≡ hand.old.entries }
 {
-    let end = slot.end();
+    // A slot ends in the space, and so its cells are there.
+    let _end = slot.end();
     let addr = 4 * (at / 4);
     let word = space.load(hand, addr);
     let cell = without_byte((word % (1 << 32)) as u32, (at % 4) as u32);

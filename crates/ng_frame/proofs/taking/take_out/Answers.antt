@@ -1,4 +1,4 @@
-use Rattle.std.proofs.Common.{◌≡◌, ◌∙◌}
+use Rattle.std.proofs.Common.{◌∙◌}
 use Rattle.ng_frame.specs.Keeps.{KeepsOthers}
 use Rattle.ng_frame.proofs.Keeps.{all_others, kills_others, others_then}
 use Rattle.ng_frame.proofs.Tokens.{block_kept, framed_kept, slot_kept}
