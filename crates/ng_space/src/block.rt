@@ -1,4 +1,4 @@
-ghost use Rattle.std.specs.Prelude.{◌≡◌, ◌+◌, ◌-◌, ◌%◌, ◌<◌, ◌≤◌};
+ghost use Rattle.std.specs.Prelude.{◌≡◌, ◌+◌, ◌-◌, ◌*◌, ◌%◌, ◌<◌, ◌≤◌};
 ghost use Rattle.ng_meta.specs.Place.{IsMetaPlace};
 
 use crate::name::Name;
@@ -57,6 +57,7 @@ impl<N: Name> Block<N> {
     pub fn gap(&self) -> u64
         ensures gap { self.now.at + result ≡ self.now.slot.end }
         ensures enough { self.now.len ≤ result }
+        ensures below { self.now.slot.end + 4 ≤ 4096 * N.start.pages }
     {
         self.slot.end() - self.at
     }

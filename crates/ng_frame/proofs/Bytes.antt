@@ -1,0 +1,71 @@
+-- One byte of a cell that is made 0.
+use Rattle.std.proofs.Common.{◌≡◌, ◌≢◌, ℕ, zero, suc, ◌-◌, ◌*◌, ◌/◌, ◌%◌, ◌^◌, ◌<◌, refl, ap, ◌∙◌, subst, ⊎_elim, inl, arith}
+use Rattle.std.proofs.lemmas.Bool.{cases_eq}
+use Rattle.ng_header.specs.Bytes.{byte_of}
+use Rattle.ng_moves.proofs.Load.{still_knows}
+use Rattle.ng_view.specs.Blocks.{Knows}
+use Rattle.ng_view.specs.Frame.{KnowsByte}
+use Rattle.ng_view.specs.Steps.{learnt, wrote}
+use Rattle.ng_view.specs.declared.view.Held.{Held}
+use Rattle.ng_frame.proofs.Keeps.{learns_cell}
+
+-- the low half of a word has the bytes of its cell
+pub byte_of-low : (word b : ℕ) → b < 4 → byte_of (word % 4294967296) b ≡ byte_of word b
+byte_of-low word zero lt = omega arith
+byte_of-low word (suc zero) lt = omega arith
+byte_of-low word (suc (suc zero)) lt = omega arith
+byte_of-low word (suc (suc (suc zero))) lt = omega arith
+byte_of-low word (suc (suc (suc (suc b)))) lt = absurd (omega arith)
+
+-- a byte that was known to be 0 stays so where another is made 0
+pub zero_kept : (h : Held) (at word value y : ℕ) → ((z : ℕ) → Knows (4 * (at / 4)) z h → word ≡ z) → byte_of value (at % 4) ≡ 0
+    → ((b : ℕ) → b < 4 → b ≢ at % 4 → byte_of value b ≡ byte_of (word % 4294967296) b) → KnowsByte y 0 h → KnowsByte y 0 (wrote (4 * (at / 4)) value (learnt (4 * (at / 4)) word h))
+zero_kept h at word value y told here others k = ⊎_elim
+    (λ (same : 4 * (y / 4) ≡ 4 * (at / 4)). (value, inl (ap (λ (a : ℕ). (a, value)) same), zero_at same))
+    (λ (ne : 4 * (y / 4) ≢ 4 * (at / 4)). (k.0, still_knows (4 * (at / 4)) value (4 * (y / 4)) k.0 (learnt (4 * (at / 4)) word h) ne ((learns_cell (4 * (at / 4)) word h).cells (4 * (y / 4)) k.0 tt k.1), k.2))
+    (cases_eq (4 * (y / 4)) (4 * (at / 4)))
+  where
+    zero_at : 4 * (y / 4) ≡ 4 * (at / 4) → byte_of value (y % 4) ≡ 0
+    zero_at same = ⊎_elim
+        (λ (e : y % 4 ≡ at % 4). ap (byte_of value) e ∙ here)
+        (λ (ne : y % 4 ≢ at % 4).
+        let lt : y % 4 < 4 = omega arith in
+        let word_is : word ≡ k.0 = told k.0 (subst (λ a. Knows a k.0 h) same k.1) in
+        others (y % 4) lt ne ∙ byte_of-low word (y % 4) lt ∙ ap (λ w. byte_of w (y % 4)) word_is ∙ k.2)
+        (cases_eq (y % 4) (at % 4))
+
+-- and the byte that is made 0 is known to be so
+pub zero_made : (h : Held) (at value : ℕ) → byte_of value (at % 4) ≡ 0 → KnowsByte at 0 (wrote (4 * (at / 4)) value h)
+zero_made h at value here = (value, inl refl, here)
+
+-- ---- a cell without one of its bytes
+-- the cell less what its byte k adds, as the code has it
+abbrev pub without : ℕ → ℕ → ℕ
+without x k = x - x / (1 * 2 ^ (8 * k) % 4294967296) % 256 * (1 * 2 ^ (8 * k) % 4294967296)
+
+pub without_zero : (x k : ℕ) → k < 4 → byte_of (without x k) k ≡ 0
+without_zero x zero lt = omega arith
+without_zero x (suc zero) lt = omega arith
+without_zero x (suc (suc zero)) lt = omega arith
+without_zero x (suc (suc (suc zero))) lt = omega arith
+without_zero x (suc (suc (suc (suc k)))) lt = absurd (omega arith)
+
+pub without_others : (x k b : ℕ) → k < 4 → b < 4 → b ≢ k → byte_of (without x k) b ≡ byte_of x b
+without_others x zero zero lk lb ne = absurd (ne refl)
+without_others x zero (suc zero) lk lb ne = omega arith
+without_others x zero (suc (suc zero)) lk lb ne = omega arith
+without_others x zero (suc (suc (suc zero))) lk lb ne = omega arith
+without_others x (suc zero) zero lk lb ne = omega arith
+without_others x (suc zero) (suc zero) lk lb ne = absurd (ne refl)
+without_others x (suc zero) (suc (suc zero)) lk lb ne = omega arith
+without_others x (suc zero) (suc (suc (suc zero))) lk lb ne = omega arith
+without_others x (suc (suc zero)) zero lk lb ne = omega arith
+without_others x (suc (suc zero)) (suc zero) lk lb ne = omega arith
+without_others x (suc (suc zero)) (suc (suc zero)) lk lb ne = absurd (ne refl)
+without_others x (suc (suc zero)) (suc (suc (suc zero))) lk lb ne = omega arith
+without_others x (suc (suc (suc zero))) zero lk lb ne = omega arith
+without_others x (suc (suc (suc zero))) (suc zero) lk lb ne = omega arith
+without_others x (suc (suc (suc zero))) (suc (suc zero)) lk lb ne = omega arith
+without_others x (suc (suc (suc zero))) (suc (suc (suc zero))) lk lb ne = absurd (ne refl)
+without_others x k (suc (suc (suc (suc b)))) lk lb ne = absurd (omega arith)
+without_others x (suc (suc (suc (suc k)))) b lk lb ne = absurd (omega arith)

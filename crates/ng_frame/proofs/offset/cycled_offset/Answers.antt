@@ -1,0 +1,28 @@
+use Rattle.std.proofs.Common.{ℕ, ◌-◌, ◌/◌, ap, ◌∙◌, arith}
+use Rattle.ng_view.specs.Steps.{loaded}
+use Rattle.ng_frame.proofs.Keeps.{loaded_others, stays_loaded}
+use Rattle.ng_header.specs.Cycle.{cycle_of}
+use Rattle.ng_frame.proofs.Slots.{cycle_of-small, front_is, narrow, whole}
+use Rattle.ng_frame.proofs.offset.cycled_offset.Goals as goal
+
+pub returns-clause-cycles : goal.returns-clause-cycles
+returns-clause-cycles g c =
+    let slot = c.args.slot.now in
+    let x : ℕ = c.load.result in
+    let is = whole g.N.Name.start c.args.hand.now slot c.requires.slot c.load.ensures.placed in record {
+      word = x;
+      view = c.load.ensures.view ∙ ap (λ a. loaded c.args.hand.now.view a x) (front_is slot c.start.result c.start.ensures is);
+      offset_is = c.cycle.ensures.value ∙ (λ k. cycle_of (c.kept_field.ensures.value k) ((c.room.ensures k - 4 - c.args.n) / 16) c.args.counter);
+    }
+
+pub returns-clause-whole : goal.returns-clause-whole
+returns-clause-whole g c = whole g.N.Name.start c.args.hand.now c.args.slot.now c.requires.slot c.load.ensures.placed
+
+pub returns-clause-narrow : goal.returns-clause-narrow
+returns-clause-narrow g c = narrow g.N.Name.start c.args.hand.now c.args.slot.now _ c.load.result c.cycle.result c.requires.slot c.load.ensures.told (let low = cycle_of-small c.kept_field.result ((c.room.result - 4 - c.args.n) / 16) c.args.counter in let o = c.cycle.ensures.value in omega (arith, low, o)) (let o = c.cycle.ensures.within in let room = c.room.ensures in let fits = c.requires.fits in omega (arith, o, room, fits))
+
+pub returns-clause-own : goal.returns-clause-own
+returns-clause-own g c = stays_loaded c.args.hand.now.view c.load.new.hand.view _ c.load.result c.args.slot.now.meta c.args.slot.now.index c.load.ensures.view
+
+pub returns-clause-others : goal.returns-clause-others
+returns-clause-others g c = loaded_others c.args.slot.now c.args.hand.now.view c.load.new.hand.view _ c.load.result c.load.ensures.view

@@ -1,0 +1,46 @@
+use Rattle.std.proofs.Common.{◌∙◌, ◌≡◌, ℕ, ◌+◌, ◌-◌, ◌*◌, sym, ap, subst}
+use Rattle.ng_view.specs.Frame.{IsTrailer}
+use Rattle.ng_space.specs.Blocks.{HasFramed, OfSlot}
+use Rattle.ng_frame.specs.Puts.{Puts}
+use Rattle.ng_frame.proofs.Frames.{given_others, puts, ready}
+use Rattle.ng_frame.proofs.Keeps.{others_then}
+use Rattle.ng_frame.specs.Keeps.{KeepsOthers}
+use Rattle.ng_frame.proofs.Tokens.{block_kept, framed_kept, slot_kept}
+use Rattle.ng_frame.proofs.putting.put.Given.{Over}
+use Rattle.ng_frame.proofs.putting.put.Goals as goal
+
+pub give-requires-clause-ready : goal.give-requires-clause-ready
+give-requires-clause-ready g c =
+    let o : ℕ = c.cycled_offset-offset.result in
+    let p : ℕ = c.start.result + 16 * o in
+    let offset = c.cycled_offset-offset.ensures in
+    ready c.store_mark.new.hand c.store_trailer.new.hand c.args.slot o c.args.n p (ap (λ s. s + 16 * o) c.start.ensures) offset.whole offset.within offset.narrow c.store_mark.ensures.slot c.store_mark.ensures.shift c.store_trailer.ensures.own
+    (subst (λ e. OfSlot c.store_trailer.new.hand c.args.slot (λ h. IsTrailer h ((e - p) - c.args.n))) c.end.ensures.end c.store_trailer.ensures.trailer)
+
+pub returns-clause-puts : goal.returns-clause-puts
+returns-clause-puts g c =
+    let o : ℕ = c.cycled_offset-offset.result in
+    let offset = c.cycled_offset-offset.ensures in
+    subst (λ b. Puts c.args.hand.now b c.args.counter c.give.new.hand) (sym c.give.ensures.block)
+    (puts c.args.hand.now c.cycled_offset-offset.new.hand c.store_mark.new.hand c.store_trailer.new.hand c.give.new.hand c.args.slot o c.args.n _ _ _ c.args.counter (ap (λ s. s + 16 * o) c.start.ensures) offset.whole c.requires.fits offset.cycles c.store_mark.ensures.others c.store_trailer.ensures.others c.give.ensures.view
+    (subst (HasFramed c.give.new.hand) c.give.ensures.block c.give.ensures.has))
+
+others : (g : Over) (c : goal.After-give g) → KeepsOthers c.args.slot c.args.hand.now.view c.give.new.hand.view
+others g c =
+    let slot = c.args.slot in
+    others_then slot _ _ _ c.cycled_offset-offset.ensures.others (others_then slot _ _ _ c.store_mark.ensures.others (others_then slot _ _ _ c.store_trailer.ensures.others (given_others c.store_trailer.new.hand.view c.give.new.hand.view slot _ _ _ _ c.give.ensures.view)))
+
+number : (g : Over) (c : goal.After-give g) → c.give.new.hand.number ≡ c.args.hand.now.number
+number g c = c.give.ensures.number ∙ c.store_trailer.ensures.number ∙ c.store_mark.ensures.number ∙ c.cycled_offset-offset.ensures.number
+
+pub returns-clause-others : goal.returns-clause-others
+returns-clause-others g c = others g c
+
+pub returns-clause-slots : goal.returns-clause-slots
+returns-clause-slots g c = λ other ne has. slot_kept c.args.hand.now c.give.new.hand c.args.slot (number g c) (others g c) other ne has
+
+pub returns-clause-blocks : goal.returns-clause-blocks
+returns-clause-blocks g c = λ other ne has. block_kept c.args.hand.now c.give.new.hand c.args.slot (number g c) (others g c) other ne has
+
+pub returns-clause-frames : goal.returns-clause-frames
+returns-clause-frames g c = λ other ne has. framed_kept c.args.hand.now c.give.new.hand c.args.slot (number g c) (others g c) other ne has

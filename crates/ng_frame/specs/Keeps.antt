@@ -1,0 +1,51 @@
+-- What steps on one slot of a hand leave of the view.
+use Rattle.std.specs.Prelude.{◌≡◌, ◌≢◌, ◌⊎◌, ℕ, ◌+◌, ◌≤◌, ◌<◌, ◌%◌, ◌++◌, List, Some}
+use Rattle.ng_view.specs.Blocks.{Knows}
+use Rattle.ng_view.specs.Lists.{find}
+use Rattle.ng_view.specs.declared.view.Held.{Held}
+use Rattle.ng_view.specs.declared.view.View.{View}
+use Rattle.ng_space.specs.Tokens.{Token}
+
+-- the slot lies where it did, with its block, and the cells of P are known as before
+pub record KeepsCells (P : ℕ → Type 0) (h k : Held) : Type 0 where
+  pub place : k.place ≡ h.place
+  pub block : k.block ≡ h.block
+  pub cells : (a x : ℕ) → P a → Knows a x h → Knows a x k
+
+-- no cell is forgotten
+abbrev pub Learns : Held → Held → Type 0
+Learns h k = KeepsCells (λ a. Unit {0}) h k
+
+-- the view has the slot before and after, and R holds of the two
+abbrev pub Stays : ℕ → ℕ → View → View → (Held → Held → Type 0) → Type 0
+Stays m i v w R = (h : Held) → find m i v.held ≡ Some h → (k : Held) × (find m i w.held ≡ Some k) × R h k
+
+-- the slot i of the meta m isn't that of the token
+abbrev pub IsOther : Token → ℕ → ℕ → Type 0
+IsOther slot m i = (m ≢ slot.meta) ⊎ (i ≢ slot.index)
+
+-- what isn't a slot, an entry or a reading is as before, and the readings have more at their end
+pub record KeepsRest (v w : View) : Type 0 where
+  pub excuses : w.excuses ≡ v.excuses
+  pub sent : w.sent ≡ v.sent
+  pub taken : w.taken ≡ v.taken
+  pub more : List (ℕ × ℕ)
+  pub readings : w.readings ≡ v.readings ++ more
+
+-- each other slot is there, with the same place and block, and at least the same known cells
+pub record KeepsOthers (slot : Token) (v w : View) : Type 0 where
+  pub slots : (m i : ℕ) → IsOther slot m i → Stays m i v w Learns
+  pub rest : KeepsRest v w
+
+-- so it is of every slot
+pub record KeepsAll (v w : View) : Type 0 where
+  pub slots : (m i : ℕ) → Stays m i v w Learns
+  pub rest : KeepsRest v w
+
+-- the slot begins and ends at cells, and its room ends by the next header cell
+pub record IsWhole (slot : Token) : Type 0 where
+  pub start : slot.start % 16 ≡ 0
+  pub end : slot.end % 16 ≡ 12
+  pub front : 16 ≤ slot.start
+  pub some : slot.start < slot.end
+  pub room : slot.start + slot.room ≤ slot.end + 4

@@ -1,0 +1,53 @@
+ghost use Rattle.std.specs.Prelude.{◌≡◌, None};
+ghost use Rattle.ng_space.specs.Blocks.{BlockToken, HasBlock, HasFramed};
+ghost use Rattle.ng_space.specs.Tokens.{HasSlot, Token};
+ghost use Rattle.ng_frame.specs.Inspects.{Inspects};
+ghost use Rattle.ng_frame.specs.Keeps.{KeepsAll};
+
+use crate::words::{byte, read_words};
+use ng_header::{nominal, reserved_of};
+use ng_space::{Block, Hand, Name, Space};
+
+/// What is wrong with the frame of a block.
+#[derive(Clone, Copy, Debug, PartialEq, Eq)]
+pub enum Damage {
+    /// The header and the last bytes of the slot tell no reserved number, or one above the gap.
+    BadReserved,
+    /// The first byte behind the block isn't 0.
+    Overrun,
+}
+
+/// The damage of a block's frame, by its cells. A frame that the hand knows has none.
+pub fn find_damage<N: Name>(
+    space: &Space<N>,
+    hand: &mut Hand<N>,
+    block: &Block<N>,
+) -> Option<Damage>
+    requires block { HasBlock hand.old block.now }
+    ensures cause { Inspects hand.old.view block.now result hand.new.view }
+    ensures framed { HasFramed hand.old block.now → result ≡ None }
+
+    // What the hand has stays.
+    ensures kept { KeepsAll hand.old.view hand.new.view }
+    ensures slots { (slot : Token) → HasSlot hand.old slot → HasSlot hand.new slot }
+    ensures blocks { (other : BlockToken) → HasBlock hand.old other → HasBlock hand.new other }
+    ensures frames { (other : BlockToken) → HasFramed hand.old other → HasFramed hand.new other }
+    ensures number { hand.new.number ≡ hand.old.number }
+    ensures spare { hand.new.spare ≡ hand.old.spare }
+    ensures entries { hand.new.entries ≡ hand.old.entries }
+{
+    let words = read_words(space, hand, block);
+    let gap = block.gap();
+    let field = (words.header / 8192 % 8) as u32;
+    let number = (words.last % (1 << 32)) as u32;
+    let Ok(reserved) = reserved_of(field, number, byte(words.fifth, 3), gap) else {
+        return Some(Damage::BadReserved);
+    };
+    let first = block.at() + gap - reserved;
+    let mark = byte(space.load(hand, 4 * (first / 4)), first % 4);
+    // The byte at the end of a slot is 0, whatever its block was used for.
+    match nominal(gap, reserved, mark, 0) {
+        Ok(_) => None,
+        Err(_) => Some(Damage::Overrun),
+    }
+}

@@ -1,0 +1,74 @@
+// Where the next block of a slot begins.
+ghost use Rattle.std.specs.Prelude.{◌≡◌, ◌+◌, ◌*◌, ◌<◌, ◌≤◌, ◌^◌};
+ghost use Rattle.ng_view.specs.Frame.{IsShift, field_of};
+ghost use Rattle.ng_space.specs.Blocks.{OfSlot, offset_in};
+ghost use Rattle.ng_space.specs.Tokens.{HasSlot};
+ghost use Rattle.ng_frame.specs.Keeps.{IsWhole, KeepsCells, KeepsOthers, Learns, Stays};
+ghost use Rattle.ng_frame.specs.Puts.{Cycles};
+
+use ng_header::cycle;
+use ng_space::{Hand, Name, Slot, Space};
+
+// Byte 1 of the header cell at a slot's start whose block begins further on.
+const MARK: u32 = 224;
+
+// The offset of the slot's next block of n bytes from its start, in units of 16 bytes.
+pub(crate) fn cycled_offset<N: Name>(
+    space: &Space<N>,
+    hand: &mut Hand<N>,
+    slot: &Slot<N>,
+    n: u64,
+    counter: u64,
+) -> u64
+    requires slot { HasSlot hand.old slot.now }
+    requires fits { n + 4 ≤ slot.now.room }
+    ensures cycles { Cycles hand.old.view slot.now n counter result hand.new.view }
+    ensures whole { IsWhole slot.now }
+    ensures within { 16 * result + n + 4 ≤ slot.now.room }
+    ensures small { result < 256 }
+    ensures narrow { offset_in slot.now (slot.now.start + 16 * result) < 65536 }
+    ensures slot { HasSlot hand.new slot.now }
+    ensures own { Stays slot.now.meta slot.now.index hand.old.view hand.new.view Learns }
+    ensures others { KeepsOthers slot.now hand.old.view hand.new.view }
+    ensures number { hand.new.number ≡ hand.old.number }
+    ensures spare { hand.new.spare ≡ hand.old.spare }
+    ensures entries { hand.new.entries ≡ hand.old.entries }
+{
+    let slack = (slot.room() - 4 - n) / 16;
+    // A slot ends in the space, and so its cells are there.
+    let _end = slot.end();
+    // That the start is a whole cell is told by the load itself.
+    let front = slot.start() / 4 * 4 - 4;
+    let header = (space.load(hand, front) % (1 << 32)) as u32;
+    cycle(kept_field(header), slack, counter)
+}
+
+// The field that the header cell at a slot's start keeps, if it keeps one.
+fn kept_field(header: u32) -> Option<u32>
+    ensures value { result ≡ field_of header }
+{
+    if header / 256 % 256 >= 1 {
+        Some(header / 65536)
+    } else {
+        None
+    }
+}
+
+// Where the block doesn't begin at the slot's start, the header cell there gets its offset.
+pub(crate) fn store_mark<N: Name>(space: &Space<N>, hand: &mut Hand<N>, slot: &Slot<N>, offset: u64)
+    requires slot { HasSlot hand.old slot.now }
+    requires whole { IsWhole slot.now }
+    requires small { offset < 256 }
+    ensures shift { OfSlot hand.new slot.now (λ h. IsShift h (slot.now.start + 16 * offset)) }
+    ensures slot { HasSlot hand.new slot.now }
+    ensures own { Stays slot.now.meta slot.now.index hand.old.view hand.new.view (KeepsCells (λ a. slot.now.start ≤ a)) }
+    ensures others { KeepsOthers slot.now hand.old.view hand.new.view }
+    ensures number { hand.new.number ≡ hand.old.number }
+    ensures spare { hand.new.spare ≡ hand.old.spare }
+    ensures entries { hand.new.entries ≡ hand.old.entries }
+{
+    if offset != 0 {
+        let mark = MARK * 256 + (offset as u32) * 65536;
+        space.store_own(hand, slot, slot.start() - 4, mark);
+    }
+}
