@@ -23,3 +23,6 @@ pub mod EndedLemmas
 pub mod SlotBackLemmas
 pub mod EndGroupLemmas
 pub mod UncountLemmas
+pub mod WantLemmas
+pub mod AskingLemmas
+pub mod SeatWantLemmas

@@ -1,7 +1,8 @@
 -- What a call builds, and when it asks the mapper for pages.
-use Rattle.std.specs.Prelude.{◌≡◌, ◌⊎◌, ℕ, ◌+◌, ◌*◌, ◌<◌, ◌≤◌, ◌∷◌, ◌++◌, [], List, length, true, false}
+use Rattle.std.specs.Prelude.{◌≡◌, ◌⊎◌, ℕ, ◌+◌, ◌*◌, ◌<◌, ◌∷◌, ◌++◌, [], List, length, true, false}
 use Rattle.ng_class.specs.Class.{IsLeastClass, units_of}
 use Rattle.ng_lists.specs.Rings.{ring_of}
+use Rattle.ng_policy.specs.Ask.{IsCount}
 use Rattle.ng_policy.specs.declared.ask.Ask.{Ask}
 use Rattle.ng_serve.specs.Reads.{IsBareIn}
 use Rattle.ng_shelf.specs.Shape.{IsNestedSize, shape_of}
@@ -21,28 +22,36 @@ pub record Want : Type 0 where
   pub ask : Ask
   pub count : ℕ
 
--- the rules were asked by the core as it stood, and gave that number
+-- the rules were asked by the core as it stood, and gave that number, which a group of the class may have
 pub record IsAsked {M P : Type 0} (counts : Ask → ℕ → Type 0) (s : State M P) (w : Want) : Type 0 where
   pub ask_is : IsAsk s.usage s.bounces w.class w.ask
   pub count_is : counts w.ask w.count
+  pub allowed : IsCount w.class w.count
 
 -- the bytes that a slot serves which carries the wanted group
 abbrev pub carried_bytes : Want → ℕ
 carried_bytes w = 16 * units_of w.class * w.count + 12
 
+-- the wanted group lies in a slot of that class
+pub record IsCarried {M P : Type 0} (counts : Ask → ℕ → Type 0) (s : State M P) (w : Want) (next : ℕ) : Type 0 where
+  pub asked : IsAsked counts s w
+  pub small : IsNestedSize w.class w.count
+  pub least : IsLeastClass (carried_bytes w) next
+
 -- groups are wanted for so many bytes of a class, each but the last to lie in a slot of the next
 abbrev pub IsChain : {M P : Type 0} → (Ask → ℕ → Type 0) → State M P → ℕ → ℕ → List Want → Type 0
 IsChain counts s class bytes [] = Unit {0}
-IsChain counts s class bytes (w ∷ ws) = (w.class ≡ class) × (w.bytes ≡ bytes) × IsAsked counts s w
-    × ((ws ≡ []) ⊎ (IsNestedSize w.class w.count × ((next : ℕ) × IsLeastClass (carried_bytes w) next × IsChain counts s next (carried_bytes w) ws)))
+IsChain counts s class bytes (w ∷ ws) = (w.class ≡ class) × (w.bytes ≡ bytes)
+    × ((ws ≡ []) ⊎ ((next : ℕ) × IsCarried counts s w next × IsChain counts s next (carried_bytes w) ws))
 
 -- and every group in the rings of their classes was read to be bare
 pub record AreWanted {M P : Type 0} (counts : Ask → ℕ → Type 0) (s : State M P) (words : List (ℕ × ℕ)) (class bytes : ℕ) (ws : List Want) : Type 0 where
   pub chain : IsChain counts s class bytes ws
   pub bare : (w : Want) → Among w ws → (m : ℕ) → IsIn s.rings w.class m → IsBareIn words m
 
--- the last of some wanted groups is this
+-- the last of some wanted groups is this, for which the rules were asked
 pub record IsLastWanted {M P : Type 0} (counts : Ask → ℕ → Type 0) (s : State M P) (words : List (ℕ × ℕ)) (class bytes : ℕ) (w : Want) : Type 0 where
+  pub asked : IsAsked counts s w
   pub before : List Want
   pub wanted : AreWanted counts s words class bytes (before ++ w ∷ [])
 
@@ -69,6 +78,11 @@ pub record HasSlots (w : Want) (g : Group) : Type 0 where
 abbrev pub areas : List Run → ℕ
 areas runs = total_by (λ (r : Run). count_of r.area) runs
 
+-- no area came, or one did, which was wanted
+abbrev pub IsAreaWanted : {M P : Type 0} → (Ask → ℕ → Type 0) → State M P → State M P → List (ℕ × ℕ) → ℕ → ℕ → Type 0
+IsAreaWanted counts before after words class bytes = (areas after.seat.desk.layout.runs ≡ areas before.seat.desk.layout.runs)
+    ⊎ ((areas after.seat.desk.layout.runs ≡ areas before.seat.desk.layout.runs + 1) × WantsArea counts before words class bytes)
+
 -- the run was noted, or is an area that was wanted, or one for a wanted group
 abbrev pub IsRunWanted : {M P : Type 0} → (Ask → ℕ → Type 0) → State M P → List (ℕ × ℕ) → ℕ → ℕ → Run → Type 0
 IsRunWanted counts s words class bytes r = Among r s.seat.desk.layout.runs
@@ -85,11 +99,13 @@ pub record BuildsWanted {M P : Type 0} (counts : Ask → ℕ → Type 0) (before
   pub came : Came before.seat after.seat
   pub runs : (r : Run) → Among r after.seat.desk.layout.runs → IsRunWanted counts before came.words class bytes r
   pub groups : (g : Group) → Among g after.seat.desk.groups → IsGroupWanted counts before came.words class bytes g
-  pub one_area : areas after.seat.desk.layout.runs ≤ areas before.seat.desk.layout.runs + 1
+  pub one_area : IsAreaWanted counts before after came.words class bytes
 
--- the refused map call was for an area that was wanted, and no area came; or for the run of a wanted group
+-- the refused map call was for an area that was wanted, and no area came; or for the run of a wanted group, and one area
+-- came at most
 pub record RefusedWanted {M P : Type 0} (counts : Ask → ℕ → Type 0) (before after : State M P) (class bytes pages : ℕ) : Type 0 where
   pub came : Came before.seat after.seat
+  pub one_area : IsAreaWanted counts before after came.words class bytes
   pub cause : ((pages ≡ 1) × (areas after.seat.desk.layout.runs ≡ areas before.seat.desk.layout.runs) × WantsArea counts before came.words class bytes)
       ⊎ WantsRun counts before came.words class bytes pages
 
