@@ -9,4 +9,3 @@ pub mod ClassFor
 pub mod Asking
 pub mod Filling
 pub mod Ending
-pub mod Tests

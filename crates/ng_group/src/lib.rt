@@ -14,6 +14,3 @@ mod works;
 
 pub use heap_core::Core;
 pub use tables::Tables;
-
-#[cfg(test)]
-mod tests;
