@@ -22,8 +22,8 @@ use Rattle.ng_serve.specs.Takes.{IsServed}
 use Rattle.ng_serve.specs.declared.group.LiveGroup.{LiveGroup}
 use Rattle.ng_ledger.specs.Rings.{AreRinged}
 use Rattle.ng_ledger.proofs.RingLemmas.{grow}
-use Rattle.ng_group.specs.Filling.{AreSlots, CapturesAll, LooksAt, Searches}
-use Rattle.ng_group.specs.Returning.{HasReturned, IsKept, IsSpare, MayGo, TakesWhole}
+use Rattle.ng_group.specs.Filling.{AreSlots, LooksAt, Searches}
+use Rattle.ng_group.specs.Returning.{CapturesAll, HasReturned, IsKept, IsSpare, MayGo, TakesWhole}
 use Rattle.ng_group.specs.Serving.{OnlyRing}
 use Rattle.ng_group.specs.States.{State, Working, ledger_of}
 use Rattle.ng_group.proofs.FillingLemmas.{fills_some}
@@ -202,7 +202,7 @@ module _ {M P : Type 0} (start : Start) (span : M → Span) (runs : M → List m
       all_only = only_then found.class now mid (record s { seat = x }) (read_only found.class) (searched_only found.class mid x searches)
 
     pub all_takes : (keeps : P → Spare → Bool → Type 0) (x : View) (answer : Bool)
-        → FillsGroup avail freed index found.last → MayGo (keeps s.rules) mid meta found → CapturesAll w meta index found.last answer → TakesWhole (keeps now.rules) now meta index found answer x
+        → FillsGroup avail freed index found.last → MayGo (keeps s.rules) mid meta found → CapturesAll w meta index found.last answer x → TakesWhole (keeps now.rules) now meta index found answer x
     all_takes keeps x answer fills may all = subst (λ (y : State M P). TakesWhole (keeps y.rules) y meta index found answer x) same (record {
       freed = freed;
       avail = avail;

@@ -1,9 +1,8 @@
 -- Whether a slot and those of a group's masks are all of its slots.
-use Rattle.std.specs.Prelude.{◌≡◌, ℕ, ◌<◌, ◌≤◌, ◌↔◌, Bool, IsTrue}
+use Rattle.std.specs.Prelude.{◌≡◌, ℕ, ◌<◌, ◌≤◌}
 use Rattle.std.specs.Int.{bit_at}
-use Rattle.ng_class.specs.Mask.{FillsGroup}
 use Rattle.ng_lock_moves.specs.Masks.{IsServing}
-use Rattle.ng_mask.specs.Fetches.{Captures, OfGroup}
+use Rattle.ng_mask.specs.Fetches.{OfGroup}
 use Rattle.ng_view.specs.Lists.{Among}
 use Rattle.ng_view.specs.declared.view.View.{View}
 use Rattle.ng_group.specs.Returning.{ReadsBoth}
@@ -31,8 +30,3 @@ pub record LooksAt (v : View) (meta avail freed : ℕ) (w : View) : Type 0 where
   pub freed_slots : OfGroup v meta (λ g. AreSlots freed g.last)
   pub avail_serves : 0 < avail → OfGroup v meta (IsServing v)
   pub freed_serves : 0 < freed → OfGroup v meta (IsServing v)
-
--- both masks were captured, and the answer is whether they and the slot are all slots of the group
-abbrev pub CapturesAll : View → ℕ → ℕ → ℕ → Bool → Type 0
-CapturesAll v meta index last answer = (avail : ℕ) × (freed : ℕ) × (w : View) × Captures v meta avail freed w
-    × (IsTrue answer ↔ FillsGroup avail freed index last)

@@ -11,6 +11,7 @@ use Rattle.ng_view.specs.Lists.{Among, find}
 use Rattle.ng_view.specs.declared.view.Group.{Group}
 use Rattle.ng_view.specs.declared.view.Held.{Held}
 use Rattle.ng_view.specs.declared.view.View.{View}
+use Rattle.ng_serve.specs.Takes.{PutsCaptured}
 use Rattle.ng_serve.specs.declared.group.LiveGroup.{LiveGroup}
 use Rattle.ng_ledger.specs.Groups.{IsUnborn}
 use Rattle.ng_ledger.specs.Metas.{IsBlankMeta}
@@ -67,6 +68,13 @@ pub record ReadsBoth (v : View) (meta freed avail : ℕ) (w : View) : Type 0 whe
   pub avail_is : avail ≡ second % 2 ^ 32
   pub readings : w.readings ≡ (v.readings ++ (meta + 28, first) ∷ []) ++ (meta + 24, second) ∷ []
 
+-- both masks were captured, and the answer is whether they and the slot are all slots of the group. The call ends there, or
+-- they and the slot are put back
+abbrev pub CapturesAll : View → ℕ → ℕ → ℕ → Bool → View → Type 0
+CapturesAll v meta index last answer after = (avail : ℕ) × (freed : ℕ) × (w : View) × Captures v meta avail freed w
+    × (IsTrue answer ↔ FillsGroup avail freed index last)
+    × (answer ≡ true → after ≡ w) × (answer ≡ false → PutsCaptured w meta avail freed index after)
+
 -- the slot of that index was returned to a live group whose numbers are found. Its masks were read; where they and the
 -- slot fill the group, and it may go, both were captured, and the answer is whether the captured masks and the slot fill
 -- it. Else the slot is in a mask again
@@ -76,8 +84,7 @@ pub record TakesWhole {M P : Type 0} (keeps : Spare → Bool → Type 0) (before
   pub between : View
   pub reads : ReadsBoth before.seat meta freed avail between
   pub ends : (FillsGroup avail freed index found.last × MayGo keeps before meta found
-      × ((captured_avail : ℕ) × (captured_freed : ℕ) × (w : View) × Captures between meta captured_avail captured_freed w
-      × (IsTrue answer ↔ FillsGroup captured_avail captured_freed index found.last)))
+      × CapturesAll between meta index found.last answer after)
       ⊎ ((answer ≡ false) × ((¬ FillsGroup avail freed index found.last) ⊎ IsKept keeps before meta found))
 
 -- the meta of a group that ended has come in hand, with its cells known to be 0; the others in hand are the same

@@ -12,8 +12,8 @@ ghost use Rattle.ng_lists.specs.Rings.{IsListed};
 ghost use Rattle.ng_ledger.specs.Groups.{IsOfClass};
 ghost use Rattle.ng_ledger.specs.Standing.{KeepsHand};
 ghost use Rattle.ng_serve.specs.Takes.{IsServed};
-ghost use Rattle.ng_group.specs.Filling.{AreSlots, CapturesAll, LooksAt, Searches};
-ghost use Rattle.ng_group.specs.Returning.{HasReturned, HasWhole, IsKept, IsSpare, MayGo, TakesWhole};
+ghost use Rattle.ng_group.specs.Filling.{AreSlots, LooksAt, Searches};
+ghost use Rattle.ng_group.specs.Returning.{CapturesAll, HasReturned, HasWhole, IsKept, IsSpare, MayGo, TakesWhole};
 ghost use Rattle.ng_group.specs.Serving.{OnlyRing};
 ghost use Rattle.ng_group.specs.States.{Working, ledger_of};
 ghost use Rattle.ng_group.specs.Steps.{GoesOn, IsCalm};
@@ -182,7 +182,7 @@ fn capture_all<N: Name>(
     ensures searches { Searches seat.old seat.new }
     ensures whole { IsTrue result → HasWhole seat.new meta }
     ensures idle { result ≡ false → seat.new.held ≡ [] }
-    ensures captured { CapturesAll seat.old meta index last result }
+    ensures captured { CapturesAll seat.old meta index last result seat.new }
 {
     let masks = capture(space, seat, meta);
     if fills(masks, index, last) {
