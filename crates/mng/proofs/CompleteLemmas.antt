@@ -1,12 +1,9 @@
 -- Words and an input in their languages are served.
-use Rattle.std.proofs.Common.{◌≡◌, ◌≢◌, ◌⊎◌, ◌↔◌, ℕ, List, [], ◌++◌, Option, Some, None, refl, sym, ap, inl, inr, rules, ◌∙◌}
-use Rattle.std.specs.Prelude.{Err}
+use Rattle.std.proofs.Common.{◌≡◌, ◌≢◌, ◌⊎◌, ℕ, List, [], ◌++◌, Option, Some, None, refl, sym, ap, inl, inr, ◌∙◌}
 use Rattle.std.proofs.lemmas.List.{append-nil}
 use Rattle.ng_mtrace.specs.Faults.{first_fault}
-use Rattle.ng_mtrace.specs.Reads.{MeetsFault, ReadsLogs}
+use Rattle.ng_mtrace.specs.Reads.{MeetsFault}
 use Rattle.ng_mtrace.specs.Sections.{logs_of}
-use Rattle.ng_mtrace.specs.Streams.{AtEnd, put_back}
-use Rattle.ng_mtrace.specs.declared.log.Logs.{Logs}
 use Rattle.ng_mtrace.specs.declared.log_fault.LogFault.{LogFault}
 use Rattle.ng_mtrace.specs.declared.log_fault.LogFault.TheVariants as fault
 use Rattle.mng.specs.Inputs.{HasNoLog, IsInForm}

@@ -1,5 +1,5 @@
 -- Plans of inputs within the limits.
-use Rattle.std.proofs.Common.{◌≡◌, ℕ, ◌≤◌, length, arith, ap, ◌∙◌, rules}
+use Rattle.std.proofs.Common.{◌≡◌, ◌≤◌, length, arith, ap, ◌∙◌}
 use Rattle.std.proofs.lemmas.List.{length-map}
 use Rattle.ng_mtrace.specs.declared.log.Log.{Log}
 use Rattle.ng_mtrace.specs.declared.log.Logs.{Logs}

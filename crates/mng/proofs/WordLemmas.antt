@@ -1,18 +1,131 @@
--- Lists of one word and of two.
-use Rattle.std.proofs.Common.{◌≡◌, ℕ, ◌<◌, ◌≤◌, List, [], ◌∷◌, length, slice_index_or, String, Global, string_bytes, ap, sym, arith, ◌∙◌}
-use Rattle.mng.specs.Words.{texts_of}
+-- The words of a command.
+use Rattle.std.proofs.Common.{◌≡◌, ℕ, ◌+◌, ◌≤◌, Bool, true, false, List, [], ◌∷◌, length, take, drop, ◌-◌, length-drop, slice_index_or, String, Global, string_bytes, Option, Some, None, refl, sym, ap, subst, ◌∙◌, arith, cond}
+use Rattle.std.specs.Prelude.{codes, count_by}
+use Rattle.std.specs.Option.{option_and_then, unwrap_or}
+use Rattle.std.specs.List.{filter_map}
+use Rattle.std.specs.Str.{bytes_eq}
+use Rattle.std.proofs.lemmas.List.{take_all}
+use Rattle.std.proofs.lemmas.Slice.Eq.{bytes_eq-Decides}
+use Rattle.mng.specs.Words.{texts_of, is_calls, pages_text, refuse_text, IsPages, IsList, MeansAtMostOne, Asked, AsksSpace, InLanguage, IsCommand, ShowsCalls}
+use Rattle.mng.specs.Givens.{calls_added, pair_added, options_added, given_of}
+use Rattle.mng.specs.declared.asked.Given.{Given}
+use Rattle.mng.proofs.OptionLemmas.{one_if, chosen, AreOptions, options-taken, options_added-are, options_added-calls, means-from_Adds, adds-from_means}
 
--- the texts of one word
-pub texts_of-one : (words : List (String Global)) (word : String Global) → 1 ≤ length words → length words < 2 → word ≡ slice_index_or words 0 word → texts_of words ≡ string_bytes word ∷ []
-texts_of-one [] word some few is = absurd (omega arith)
-texts_of-one (first ∷ []) word some few is = ap (λ (w : String Global). string_bytes w ∷ []) (sym is)
-texts_of-one (first ∷ second ∷ others) word some few is = absurd (omega arith)
+nothing : Given
+nothing = record { calls_shown = false; pages = None; refuse = None }
 
--- the texts of two words
-pub texts_of-two : (words : List (String Global)) (word other : String Global) → 2 ≤ length words → length words < 3 → word ≡ slice_index_or words 0 word → other ≡ slice_index_or words 1 other
-    → texts_of words ≡ string_bytes word ∷ string_bytes other ∷ []
-texts_of-two [] word other some few is is2 = absurd (omega arith)
-texts_of-two (first ∷ []) word other some few is is2 = absurd (omega arith)
-texts_of-two (first ∷ second ∷ []) word other some few is is2 =
-    ap (λ (w : String Global). string_bytes w ∷ string_bytes second ∷ []) (sym is) ∙ ap (λ (w : String Global). string_bytes word ∷ string_bytes w ∷ []) (sym is2)
-texts_of-two (first ∷ second ∷ third ∷ others) word other some few is is2 = absurd (omega arith)
+-- what was given is what a command asks
+asked_of : Given → Asked
+asked_of given = record { calls_shown = given.calls_shown; pages = unwrap_or given.pages 4096; refuse = unwrap_or given.refuse [] }
+
+command-from_options : (name : List ℕ) (texts : List (List ℕ)) (given : Given) → bytes_eq name (codes "serial") ≡ true → AreOptions nothing texts given → IsCommand (name ∷ texts) (asked_of given)
+unfolding nothing asked_of
+command-from_options name texts given named are =
+    let calls : count_by is_calls are.options + 0 ≡ one_if given.calls_shown = are.extends.calls in
+    record {
+      options = are.options;
+      words = ap (λ (n : List ℕ). n ∷ texts) ((bytes_eq-Decides name (codes "serial")).0 named) ∙ ap (λ (ts : List (List ℕ)). codes "serial" ∷ ts) are.words;
+      calls_shown = omega arith;
+      pages = means-from_Adds IsPages 4096 (filter_map pages_text are.options) given.pages are.extends.pages;
+      refuse = means-from_Adds IsList [] (filter_map refuse_text are.options) given.refuse are.extends.refuse;
+    }
+
+IsCommand-from_Some : (texts : List (List ℕ)) (given : Given) → Some given ≡ given_of texts → IsCommand texts (asked_of given)
+unfolding given_of nothing
+IsCommand-from_Some [] given is = absurd (cc)
+IsCommand-from_Some (name ∷ texts) given is = by_name (bytes_eq name (codes "serial")) refl is
+  where
+    by_name : (a : Bool) → bytes_eq name (codes "serial") ≡ a → Some given ≡ cond a (options_added nothing texts) None → IsCommand (name ∷ texts) (asked_of given)
+    by_name true named rest = command-from_options name texts given named (options-taken nothing given texts (sym rest))
+    by_name false named rest = absurd (cc)
+
+-- what the words give, as the contracts say it
+pub AsksSpace-from_Some : (texts : List (List ℕ)) (given : Given) → Some given ≡ given_of texts → AsksSpace texts (unwrap_or given.pages 4096) (unwrap_or given.refuse [])
+unfolding asked_of
+AsksSpace-from_Some texts given is = record { asked = asked_of given; command = IsCommand-from_Some texts given is; size = refl; calls = refl }
+
+pub ShowsCalls-from_Some : (texts : List (List ℕ)) (given : Given) → Some given ≡ given_of texts → ShowsCalls texts given.calls_shown
+unfolding asked_of
+ShowsCalls-from_Some texts given is = record { asked = asked_of given; command = IsCommand-from_Some texts given is; shown = refl }
+
+pub InLanguage-from_Some : (texts : List (List ℕ)) (given : Given) → Some given ≡ given_of texts → InLanguage texts
+InLanguage-from_Some texts given is = record { asked = asked_of given; command = IsCommand-from_Some texts given is }
+
+-- the pages of a command are those that a space may have
+pages-bounds : (texts : List (List ℕ)) (pages : ℕ) → MeansAtMostOne IsPages 4096 texts pages → (16 ≤ pages) × (pages ≤ 16384)
+pages-bounds [] pages means = (omega arith, omega arith)
+pages-bounds (text ∷ []) pages means = (means.least, means.most)
+pages-bounds (text ∷ other ∷ texts) pages means = absurd means
+
+pub AsksSpace-bounds : (texts : List (List ℕ)) (pages : ℕ) (refuse : List ℕ) → AsksSpace texts pages refuse → (16 ≤ pages) × (pages ≤ 16384)
+AsksSpace-bounds texts pages refuse asks =
+    let bounds = pages-bounds (filter_map pages_text asks.command.options) asks.asked.pages asks.command.pages in
+    let size : pages ≡ asks.asked.pages = asks.size in
+    rw size bounds
+
+-- the words of a command give something
+given_of-command : (texts : List (List ℕ)) (asked : Asked) (command : IsCommand texts asked)
+    → given_of texts ≡ Some (record { calls_shown = asked.calls_shown; pages = chosen IsPages (filter_map pages_text command.options) asked.pages; refuse = chosen IsList (filter_map refuse_text command.options) asked.refuse })
+unfolding given_of
+given_of-command texts asked command =
+    let calls : count_by is_calls command.options ≡ one_if asked.calls_shown = command.calls_shown in
+    ap given_of command.words
+    ∙ options_added-are command.options (record { calls_shown = false; pages = None; refuse = None })
+    (record { calls_shown = asked.calls_shown; pages = chosen IsPages (filter_map pages_text command.options) asked.pages; refuse = chosen IsList (filter_map refuse_text command.options) asked.refuse })
+    (record {
+      calls = omega arith;
+      pages = adds-from_means IsPages 4096 (filter_map pages_text command.options) asked.pages command.pages;
+      refuse = adds-from_means IsList [] (filter_map refuse_text command.options) asked.refuse command.refuse;
+    })
+
+pub no_language : (texts : List (List ℕ)) → None ≡ given_of texts → ¬ InLanguage texts
+no_language texts none language =
+    let some = given_of-command texts language.asked language.command in
+    absurd (cc)
+
+-- the words behind the first, and behind the second
+pub texts_of-first : (words rest : List (String Global)) (word : String Global) → 1 ≤ length words → word ≡ slice_index_or words 0 word → rest ≡ drop 1 words → texts_of words ≡ string_bytes word ∷ texts_of rest
+texts_of-first [] rest word some is behind = absurd (omega arith)
+texts_of-first (first ∷ others) rest word some is behind = ap (λ (w : String Global). string_bytes w ∷ texts_of others) (sym is) ∙ ap (λ (ws : List (String Global)). string_bytes word ∷ texts_of ws) (sym behind)
+
+pub texts_of-second : (words rest : List (String Global)) (word text : String Global) → 2 ≤ length words → word ≡ slice_index_or words 0 word → text ≡ slice_index_or words 1 text → rest ≡ drop 2 words
+    → texts_of words ≡ string_bytes word ∷ string_bytes text ∷ texts_of rest
+texts_of-second [] rest word text some is is2 behind = absurd (omega arith)
+texts_of-second (first ∷ []) rest word text some is is2 behind = absurd (omega arith)
+texts_of-second (first ∷ second ∷ others) rest word text some is is2 behind =
+    ap (λ (w : String Global). string_bytes w ∷ string_bytes second ∷ texts_of others) (sym is)
+    ∙ ap (λ (w : String Global). string_bytes word ∷ string_bytes w ∷ texts_of others) (sym is2)
+    ∙ ap (λ (ws : List (String Global)). string_bytes word ∷ string_bytes text ∷ texts_of ws) (sym behind)
+
+-- the words behind an option
+pub options_added-one : (given more : Given) (words : List (String Global)) (word : String Global) → 1 ≤ length words → word ≡ slice_index_or words 0 word
+    → bytes_eq (string_bytes word) (codes "--calls") ≡ true → calls_added given ≡ Some more
+    → options_added more (texts_of (take (length words - 1) (drop 1 words))) ≡ options_added given (texts_of words)
+options_added-one given more words word some is named added =
+    let rest : take (length words - 1) (drop 1 words) ≡ drop 1 words = take_all (length words - 1) (drop 1 words) (omega (arith, length-drop 1 words)) in
+    let name : string_bytes word ≡ codes "--calls" = (bytes_eq-Decides (string_bytes word) (codes "--calls")).0 named in
+    ap (λ (ws : List (String Global)). options_added more (texts_of ws)) rest
+    ∙ sym (ap (options_added given) (texts_of-first words (drop 1 words) word some is refl ∙ ap (λ (text : List ℕ). text ∷ texts_of (drop 1 words)) name)
+    ∙ options_added-calls given (texts_of (drop 1 words))
+    ∙ ap (λ (o : Option Given). option_and_then (λ m. options_added m (texts_of (drop 1 words))) o) added)
+
+options_added-other : (given : Given) (option text : List ℕ) (texts : List (List ℕ)) → bytes_eq option (codes "--calls") ≡ false
+    → options_added given (option ∷ text ∷ texts) ≡ option_and_then (λ more. options_added more texts) (pair_added given option text)
+unfolding options_added
+options_added-other given option text texts other = rw other refl
+
+same_first : (words : List (String Global)) (one two : String Global) → 1 ≤ length words → one ≡ slice_index_or words 0 one → two ≡ slice_index_or words 0 two → two ≡ one
+same_first [] one two some is is2 = absurd (omega arith)
+same_first (word ∷ words) one two some is is2 = is2 ∙ sym is
+
+pub options_added-two : (given more : Given) (words : List (String Global)) (word again text : String Global) → 2 ≤ length words → word ≡ slice_index_or words 0 word → again ≡ slice_index_or words 0 again
+    → text ≡ slice_index_or words 1 text → bytes_eq (string_bytes word) (codes "--calls") ≡ false → pair_added given (string_bytes again) (string_bytes text) ≡ Some more
+    → options_added more (texts_of (take (length words - 2) (drop 2 words))) ≡ options_added given (texts_of words)
+options_added-two given more words word again text some is is2 is3 other added =
+    let rest : take (length words - 2) (drop 2 words) ≡ drop 2 words = take_all (length words - 2) (drop 2 words) (omega (arith, length-drop 2 words)) in
+    let added2 : pair_added given (string_bytes word) (string_bytes text) ≡ Some more =
+    subst (λ (w : String Global). pair_added given (string_bytes w) (string_bytes text) ≡ Some more) (same_first words word again (omega arith) is is2) added in
+    ap (λ (ws : List (String Global)). options_added more (texts_of ws)) rest
+    ∙ sym (ap (options_added given) (texts_of-second words (drop 2 words) word text some is is3 refl)
+    ∙ options_added-other given (string_bytes word) (string_bytes text) (texts_of (drop 2 words)) other
+    ∙ ap (λ (o : Option Given). option_and_then (λ m. options_added m (texts_of (drop 2 words))) o) added2)

@@ -1,4 +1,6 @@
 pub mod Words
+pub mod Givens
 pub mod Statuses
 pub mod Inputs
+pub mod Closed
 pub mod Tool

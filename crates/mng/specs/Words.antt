@@ -1,16 +1,103 @@
 -- The command-line language.
-use Rattle.std.specs.Prelude.{◌≡◌, ℕ, Bool, List, ◌∷◌, [], String, codes, if◌then◌else◌, map, string_bytes}
+use Rattle.std.specs.Prelude.{◌≡◌, ℕ, ◌^◌, ◌≤◌, Bool, true, false, List, ◌∷◌, [], ◌==◌, ◌&&◌, String, codes, if◌then◌else◌, All, length, drop, map, count_by, nat_le, nat_lt, nat_eq, string_bytes, Option, Some, None}
+use Rattle.std.specs.Char.{is_digit}
+use Rattle.std.specs.List.{filter_map, flat_map, list_all, slice_split, starts_with}
+use Rattle.std.specs.Str.Parse.{digits_value}
 use Rattle.std.specs.declared.alloc.Global.{Global}
 
 -- the bytes of each word
 abbrev pub texts_of : List (String Global) → List (List ℕ)
 texts_of words = map (λ word. string_bytes word) words
 
--- the words of `serial`, with a line for each call or without
-abbrev pub serial_words : Bool → List (List ℕ)
-serial_words calls_shown = if calls_shown then codes "serial" ∷ codes "--calls" ∷ [] else codes "serial" ∷ []
+-- the number that digits of this base write: one or more, all of them digits, and the number is below 2 ^ 64
+unfoldable pub value_of : ℕ → List ℕ → Option ℕ
+value_of base digits =
+    if nat_le 1 (length digits) && list_all (λ byte. is_digit byte base) digits && nat_lt (digits_value base digits) (2 ^ 64)
+    then Some (digits_value base digits)
+    else None
 
--- the words are those of a command
-pub record InLanguage (texts : List (List ℕ)) : Type 0 where
+-- the number that a text writes: `0x` and hexadecimal digits of either case, or decimal digits
+unfoldable pub number_of : List ℕ → Option ℕ
+number_of text = if starts_with nat_eq text (codes "0x") then value_of 16 (drop 2 text) else value_of 10 text
+
+-- a text writes a number of pages that a space may have
+pub record IsPages (text : List ℕ) (pages : ℕ) : Type 0 where
+  pub number : number_of text ≡ Some pages
+  pub least : 16 ≤ pages
+  pub most : pages ≤ 16384
+
+-- the number of a map call that may be refused
+pub record IsCallNumber (number : ℕ) : Type 0 where
+  pub least : 1 ≤ number
+  pub most : number ≤ 1000000
+
+-- the texts between a text's commas write these numbers, of which there are at most 64
+pub record IsList (text : List ℕ) (numbers : List ℕ) : Type 0 where
+  pub written : map number_of (slice_split (λ byte. byte == 44) text) ≡ map Some numbers
+  pub few : length numbers ≤ 64
+  pub each : All IsCallNumber numbers
+
+-- an option, with the text behind its name
+pub data Choice : Type 0 where
+  Calls : Choice
+  Pages : List ℕ → Choice
+  Refuse : List ℕ → Choice
+
+-- the words of an option
+abbrev pub words_of : Choice → List (List ℕ)
+words_of Calls = codes "--calls" ∷ []
+words_of (Pages text) = codes "--pages" ∷ text ∷ []
+words_of (Refuse text) = codes "--refuse" ∷ text ∷ []
+
+-- the option is `--calls`
+abbrev pub is_calls : Choice → Bool
+is_calls Calls = true
+is_calls choice = false
+
+-- the text behind `--pages`
+abbrev pub pages_text : Choice → Option (List ℕ)
+pages_text (Pages text) = Some text
+pages_text choice = None
+
+-- the text behind `--refuse`
+abbrev pub refuse_text : Choice → Option (List ℕ)
+refuse_text (Refuse text) = Some text
+refuse_text choice = None
+
+-- at most one text is given: the value is what it means, or the common one where none is
+abbrev pub MeansAtMostOne : {A : Type 0} → (List ℕ → A → Type 0) → A → List (List ℕ) → A → Type 0
+MeansAtMostOne Means common [] value = value ≡ common
+MeansAtMostOne Means common (text ∷ []) value = Means text value
+MeansAtMostOne Means common (text ∷ other ∷ texts) value = ⊥
+
+-- what a command asks: whether a line is shown for each call, the pages of the space, and the numbers of the map calls to refuse
+pub record Asked : Type 0 where
   pub calls_shown : Bool
-  pub words : texts ≡ serial_words calls_shown
+  pub pages : ℕ
+  pub refuse : List ℕ
+
+-- the texts are `serial` and behind it options in some order, each at most once, and this is what they ask
+pub record IsCommand (texts : List (List ℕ)) (asked : Asked) : Type 0 where
+  pub options : List Choice
+  pub words : texts ≡ codes "serial" ∷ flat_map words_of options
+  pub calls_shown : count_by is_calls options ≡ (if asked.calls_shown then 1 else 0)
+  pub pages : MeansAtMostOne IsPages 4096 (filter_map pages_text options) asked.pages
+  pub refuse : MeansAtMostOne IsList [] (filter_map refuse_text options) asked.refuse
+
+-- the texts are those of a command
+pub record InLanguage (texts : List (List ℕ)) : Type 0 where
+  pub asked : Asked
+  pub command : IsCommand texts asked
+
+-- the texts are those of a command that shows a line for each call, or not
+pub record ShowsCalls (texts : List (List ℕ)) (calls_shown : Bool) : Type 0 where
+  pub asked : Asked
+  pub command : IsCommand texts asked
+  pub shown : calls_shown ≡ asked.calls_shown
+
+-- the texts are those of a command that asks for so many pages, and for these map calls to be refused
+pub record AsksSpace (texts : List (List ℕ)) (pages : ℕ) (refuse : List ℕ) : Type 0 where
+  pub asked : Asked
+  pub command : IsCommand texts asked
+  pub size : pages ≡ asked.pages
+  pub calls : refuse ≡ asked.refuse

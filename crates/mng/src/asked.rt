@@ -1,3 +1,4 @@
+use crate::numbers::Numbers;
 use ng_terms::Items;
 
 /// What the words ask of the space: its size in pages, and the numbers of the map calls to refuse.
@@ -12,4 +13,12 @@ pub struct Setup {
 pub struct Command {
     /// Whether the report has a line for each call.
     pub calls_shown: bool,
+}
+
+/// What the options so far ask. `None`: that option wasn't given.
+#[derive(Drop)]
+pub struct Given {
+    pub calls_shown: bool,
+    pub pages: Option<u32>,
+    pub refuse: Option<Numbers>,
 }

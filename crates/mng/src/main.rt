@@ -2,6 +2,10 @@
 #![tactic(auto)]
 
 mod asked;
+mod choices;
+mod closed;
+mod fresh;
+mod numbers;
 mod prepare;
 mod run;
 mod status;
@@ -9,9 +13,13 @@ mod status;
 mod tests;
 mod tool;
 mod words;
+#[cfg(test)]
+mod words_tests;
 
+use choices::{count, keep};
 use ng_mapper::FirstFit;
 use ng_mtrace::{Input, Output};
+use ng_policy::Policy;
 use status::{Status, status_line};
 use std::alloc::{Alloc, Global};
 use std::env::{self, Env};
@@ -44,8 +52,17 @@ fn replayed(rt: &HostRuntime) -> Status {
     };
     let mut input = Input::new(rt.reader());
     let mut output = Output::new(io::writer(rt));
-    let (status, mapper) = tool(alloc, words.as_slice(), &mut input, &mut output, mapper);
+    let policy = Policy::new(count, keep);
+    let (status, mapper, closed) = tool(
+        alloc,
+        words.as_slice(),
+        &mut input,
+        &mut output,
+        mapper,
+        policy,
+    );
     drop(mapper);
+    drop(closed);
     status
 }
 

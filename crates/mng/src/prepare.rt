@@ -2,19 +2,17 @@ ghost use Rattle.std.specs.Prelude.{◌≡◌, ◌↔◌, ◌≤◌, ℕ, [], If
 ghost use Rattle.ng_mtrace.specs.Reads.{MeetsFault};
 ghost use Rattle.ng_mtrace.specs.declared.log_fault.LogFault.TheVariants as fault;
 ghost use Rattle.ng_plan.specs.Sound.{IsSound};
-ghost use Rattle.ng_replay.specs.Room.{HasRoom};
 ghost use Rattle.ng_report.specs.Room.{room_of};
 ghost use Rattle.ng_terms.specs.Calls.{op_count};
 ghost use Rattle.ng_terms.specs.Causes.{Rose};
 ghost use Rattle.mng.specs.Inputs.{HasNoLog, PlansInput};
 ghost use Rattle.mng.specs.Statuses.{told_by, IsEarly, IsInputFault};
-ghost use Rattle.mng.specs.Words.{texts_of, serial_words, InLanguage};
+ghost use Rattle.mng.specs.Words.{texts_of, InLanguage, ShowsCalls};
 
 use crate::status::Status;
 use crate::words::command;
 use ng_mtrace::{LogFault, Source, read_logs};
 use ng_plan::plan;
-use ng_replay::Room;
 use ng_report::report_room;
 use ng_terms::{Host, Plan};
 use std::alloc::Global;
@@ -25,8 +23,6 @@ pub struct Prepared {
     pub plan: Plan,
     /// Whether the report has a line for each call.
     pub calls_shown: bool,
-    /// Room for the replies and the hand-offs.
-    pub room: Room,
     /// Room for the report.
     pub text: Vec<u8>,
     ghost few: { length plan.logs ≤ 16 },
@@ -41,10 +37,9 @@ pub fn prepare<I: Source>(
     words: &[String],
     input: &mut I,
 ) -> Result<Prepared, Status>
-    ensures words { IfOk result (λ run. texts_of words.now ≡ serial_words run.calls_shown) }
+    ensures words { IfOk result (λ run. ShowsCalls (texts_of words.now) run.calls_shown) }
     ensures input { IfOk result (λ run. PlansInput (I.left input.old) (I.left input.new) run.plan) }
     ensures sound { IfOk result (λ run. IsSound run.plan) }
-    ensures room { IfOk result (λ run. HasRoom run.room run.plan) }
 
     ensures usage { (result ≡ Err Status.Usage) ↔ ¬ InLanguage (texts_of words.now) }
     ensures read { result ≡ Err Status.ReadFault → Rose (I.faults input.old) (I.faults input.new) }
@@ -71,16 +66,13 @@ fn with_room(alloc: Global, plan: Plan, calls_shown: bool) -> Result<Prepared, H
     requires short { op_count plan.logs ≤ 1000000 }
     ensures plan { IfOk result (λ run. run.plan ≡ plan) }
     ensures calls { IfOk result (λ run. run.calls_shown ≡ calls_shown) }
-    ensures room { IfOk result (λ run. HasRoom run.room run.plan) }
 {
-    let room = Room::for_plan(alloc, &plan)?;
     let Ok(text) = Vec::with_capacity(alloc, report_room(&plan, calls_shown)) else {
         return Err(Host);
     };
     Ok(Prepared {
         plan,
         calls_shown,
-        room,
         text,
     })
 }

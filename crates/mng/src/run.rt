@@ -1,20 +1,29 @@
-ghost use Rattle.std.specs.Prelude.{◌≡◌, ◌≤◌, ◌*◌, [], length, sum_by};
+ghost use Rattle.std.specs.Prelude.{◌≡◌, ◌⊎◌, ◌≤◌, [], length, vec_capacity};
+ghost use Rattle.mng.specs.Closed.{program_secret};
+ghost use Rattle.mng.specs.Statuses.{IsLate};
+ghost use Rattle.mng.specs.Tool.{Ends};
+ghost use Rattle.ng_group.specs.Opening.{AreEmpty, IsFreshMapper};
 ghost use Rattle.ng_plan.specs.Sound.{IsSound};
+ghost use Rattle.ng_replay.specs.Books.{rooms_for};
 ghost use Rattle.ng_replay.specs.Room.{HasRoom};
 ghost use Rattle.ng_replay.specs.Serving.{counts_of};
-ghost use Rattle.ng_terms.specs.Calls.{op_count};
+ghost use Rattle.ng_space.specs.Callers.{fresh_callers, opened};
 ghost use Rattle.ng_terms.specs.Causes.{Rose};
-ghost use Rattle.mng.specs.Statuses.{IsLate};
-ghost use Rattle.mng.specs.Tool.{Accounts, Ends};
 
+use crate::closed::Closed;
+use crate::fresh::Fresh;
 use crate::prepare::Prepared;
 use crate::status::Status;
+use ng_group::Core;
+use ng_heap::Heap;
 use ng_mapper::Mapper;
 use ng_mtrace::{Failed, Sink, write_all};
+use ng_policy::{Kept, Rules};
 use ng_replay::{Room, serial};
 use ng_report::render;
-use ng_terms::{Items, Mode, Plan, Reply};
-use plain_heap::PlainHeap;
+use ng_space::{Hand, Name};
+use ng_terms::{Host, Items, Mode};
+use std::alloc::Global;
 
 /// Blocks are made with the common alignment, and their bytes aren't set.
 const PLAIN: Mode = Mode {
@@ -22,52 +31,98 @@ const PLAIN: Mode = Mode {
     zero: false,
 };
 
-/// Does the ops of a plan on a heap that had no call yet, and writes the report. It takes no memory.
-pub fn run<O: Sink, M: Mapper>(prepared: Prepared, heap: PlainHeap<M>, out: &mut O) -> (Status, M)
+/// Does the ops of a plan on a heap of its own, and writes the report. All memory is taken before the first op: where the
+/// host has too little, nothing is done, and the mapper comes back as it was.
+pub fn run<N: Name, O: Sink, M: Mapper, P: Rules + Drop>(
+    alloc: Global,
+    prepared: Prepared,
+    fresh: Fresh,
+    mapper: M,
+    policy: P,
+    out: &mut O,
+) -> (Status, M, Vec<Closed>)
+    requires good { P.good policy }
+    requires table { fresh.blank.table ≡ N.table }
+    requires start { fresh.blank.start ≡ N.start }
+    requires secret { N.start.secret ≡ program_secret }
     requires sound { IsSound prepared.plan }
-    requires room { HasRoom prepared.room prepared.plan }
-    requires history { heap.history ≡ [] }
-    requires spare { 2 * op_count prepared.plan.logs ≤ heap.spare }
-    requires before { heap.before ≡ heap.now.count }
+    requires rooms { fresh.blank.rooms ≡ rooms_for prepared.plan }
+    requires tables { AreEmpty N.start.pages fresh.tables }
+    requires mapper { IsFreshMapper N.start (M.span mapper) (M.runs mapper) (M.refused mapper) }
+    ensures late { (result.0 ≡ Status.Host) ⊎ IsLate result.0 }
+    ensures write_fault { result.0 ≡ Status.WriteFault → Rose (O.faults out.old) (O.faults out.new) }
+    ensures ends { IsLate result.0 → Ends prepared.plan prepared.calls_shown (M.span mapper)
+        (counts_of (M.refused mapper)) (counts_of (M.refused result.1)) (M.runs result.1) result.2.items
+        (O.written out.old) (O.written out.new) result.0 }
+    ensures nothing { result.0 ≡ Status.Host → O.written out.new ≡ O.written out.old }
+    ensures handed_back { result.0 ≡ Status.Host → result.1 ≡ mapper }
+    ensures none { result.0 ≡ Status.Host → result.2.items ≡ [] }
+{
+    let Fresh {
+        blank,
+        tables,
+        closed,
+    } = fresh;
+    let rules = Kept::new(policy);
+    let (heap, core, hands) = match Heap::<N>::open(alloc, blank, tables, mapper, rules) {
+        Ok(parts) => parts,
+        Err((mapper, Host)) => return (Status::Host, mapper, closed),
+    };
+    match Room::for_plan(alloc, &prepared.plan) {
+        Ok(room) => served(heap, core, hands, prepared, room, closed, out),
+        Err(Host) => {
+            let (_image, _books, mapper) = heap.close(core, hands);
+            (Status::Host, mapper, closed)
+        }
+    }
+}
+
+/// From the first op on. It takes no memory.
+fn served<N: Name, O: Sink, M: Mapper, P: Rules + Drop>(
+    heap: Heap<N>,
+    mut core: Core<N, M, P>,
+    mut hands: Vec<Hand<N>>,
+    prepared: Prepared,
+    room: Room<N>,
+    mut closed: Vec<Closed>,
+    out: &mut O,
+) -> (Status, M, Vec<Closed>)
+    requires sound { IsSound prepared.plan }
+    requires secret { N.start.secret ≡ program_secret }
+    requires mapper { IsFreshMapper N.start (M.span core.mapper) (M.runs core.mapper) (M.refused core.mapper) }
+    requires hands { hands.items ≡ fresh_callers 1 (rooms_for prepared.plan) }
+    requires seat { core.seat ≡ opened N.start (length prepared.plan.logs) }
+    requires room { HasRoom room prepared.plan }
+    requires none { closed.items ≡ [] }
+    requires one { 1 ≤ vec_capacity closed }
     ensures late { IsLate result.0 }
     ensures write_fault { result.0 ≡ Status.WriteFault → Rose (O.faults out.old) (O.faults out.new) }
-    ensures ends { Ends prepared.plan prepared.calls_shown heap.span.size
-        (counts_of heap.now) (counts_of (M.refused result.1)) (sum_by (λ run. run.1) (M.runs result.1))
+    ensures ends { Ends prepared.plan prepared.calls_shown (M.span core.mapper)
+        (counts_of (M.refused core.mapper)) (counts_of (M.refused result.1)) (M.runs result.1) result.2.items
         (O.written out.old) (O.written out.new) result.0 }
 {
     let Prepared {
         plan,
         calls_shown,
-        room,
         mut text,
     } = prepared;
-    let (replies, mapper) = serve(&plan, heap, room);
-    let pages = mapper.live_pages();
+    let replies = serial(&heap, &mut core, &mut hands, &plan, room);
+    let (image, books, mapper) = heap.close(core, hands);
     render(
         &plan,
         PLAIN,
         calls_shown,
         replies.as_slice(),
-        pages,
+        mapper.live_pages(),
         &mut text,
     );
+    closed.push_reserved(Closed {
+        image,
+        books: Items::from_vec(books),
+        replies: Items::from_vec(replies),
+    });
     match write_all(out, text.as_slice()) {
-        Ok(()) => (Status::Done, mapper),
-        Err(Failed) => (Status::WriteFault, mapper),
+        Ok(()) => (Status::Done, mapper, closed),
+        Err(Failed) => (Status::WriteFault, mapper, closed),
     }
-}
-
-/// Does the ops of a plan, and ends the heap.
-fn serve<M: Mapper>(plan: &Plan, heap: PlainHeap<M>, room: Room) -> (Vec<Items<Reply>>, M)
-    requires sound { IsSound plan.now }
-    requires few { length plan.now.logs ≤ 16 }
-    requires room { HasRoom room plan.now }
-    requires history { heap.history ≡ [] }
-    requires spare { 2 * op_count plan.now.logs ≤ heap.spare }
-    requires before { heap.before ≡ heap.now.count }
-    ensures account { Accounts plan.now heap.span.size (counts_of heap.now) (counts_of (M.refused result.1)) result.0.items }
-{
-    let mut heap = heap;
-    let replies = serial(&mut heap, plan, room);
-    (replies, heap.close())
 }

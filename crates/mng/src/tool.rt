@@ -1,50 +1,57 @@
-ghost use Rattle.std.specs.Prelude.{◌≡◌, ◌↔◌, ◌⊎◌, ◌*◌, ◌≤◌, ◌<◌, ◌^◌, ℕ, [], sum_by};
+ghost use Rattle.std.specs.Prelude.{◌≡◌, ◌↔◌, ◌⊎◌, ◌*◌, ◌≤◌, ◌<◌, ◌^◌, ℕ, []};
 ghost use Rattle.ng_mtrace.specs.Reads.{MeetsFault};
 ghost use Rattle.ng_mtrace.specs.declared.log_fault.LogFault.TheVariants as fault;
 ghost use Rattle.ng_terms.specs.Causes.{Rose};
 ghost use Rattle.mng.specs.Inputs.{HasNoLog, IsInForm};
 ghost use Rattle.mng.specs.Statuses.{IsEarly};
 ghost use Rattle.mng.specs.Tool.{WritesBeginning, WritesReport};
+ghost use Rattle.ng_policy.specs.Policy.{Counts, Keeps};
 ghost use Rattle.ng_replay.specs.Serving.{counts_of};
 ghost use Rattle.mng.specs.Words.{texts_of, InLanguage};
 
+use crate::closed::Closed;
+use crate::fresh::Fresh;
 use crate::prepare::prepare;
 use crate::run::run;
 use crate::status::Status;
 use ng_mapper::Mapper;
 use ng_mtrace::{Sink, Source};
-use ng_report::count_ops;
+use ng_policy::{Ask, Policy, Spare};
 use ng_terms::Host;
-use plain_heap::PlainHeap;
 use std::alloc::Global;
+use std::marker::Brand;
 
-/// Does what the words ask: `serial` replays the logs of the input in the order of their plan, on a heap over the mapper,
-/// and writes the report. It answers how that ended, and hands the mapper back.
+/// Does what the words ask: `serial` replays the logs of the input in the order of their plan, on a heap over the mapper
+/// that builds its groups by the policy, and writes the report. It answers how that ended, and hands the mapper back, with
+/// the heap as it was closed where the report or a beginning of it was written.
 ///
 /// `Host` may come whenever the host has no memory left, but only before the first call of the heap.
-pub fn tool<I: Source, O: Sink, M: Mapper>(
+pub fn tool<I: Source, O: Sink, M: Mapper, C: Fn(Ask) -> u32 + Drop, K: Fn(Spare) -> bool + Drop>(
     alloc: Global,
     words: &[String],
     input: &mut I,
     out: &mut O,
     mapper: M,
-) -> (Status, M)
+    policy: Policy<C, K>,
+) -> (Status, M, Vec<Closed>)
     requires no_runs { M.runs mapper ≡ [] }
     requires least { 16 ≤ (M.span mapper).size }
     requires most { (M.span mapper).size ≤ 16384 }
     requires refusals { (M.refused mapper).count < 2 ^ 62 }
+    requires counts { Counts C.pre C.post policy.count }
+    requires keeps { Keeps K.pre policy.keep }
 
     // All was written: the report of replies that fit, with the books of one legal history.
     ensures done { result.0 ≡ Status.Done → WritesReport (texts_of words.now)
-        (I.left input.old) (I.left input.new) (M.span mapper).size
-        (counts_of (M.refused mapper)) (counts_of (M.refused result.1)) (sum_by (λ run. run.1) (M.runs result.1))
+        (I.left input.old) (I.left input.new) (M.span mapper)
+        (counts_of (M.refused mapper)) (counts_of (M.refused result.1)) (M.runs result.1) result.2.items
         (O.written out.old) (O.written out.new) }
 
     // A write failed, and a beginning of such a report was written.
     ensures write_fault { result.0 ≡ Status.WriteFault → Rose (O.faults out.old) (O.faults out.new) }
     ensures beginning { result.0 ≡ Status.WriteFault → WritesBeginning (texts_of words.now)
-        (I.left input.old) (I.left input.new) (M.span mapper).size
-        (counts_of (M.refused mapper)) (counts_of (M.refused result.1)) (sum_by (λ run. run.1) (M.runs result.1))
+        (I.left input.old) (I.left input.new) (M.span mapper)
+        (counts_of (M.refused mapper)) (counts_of (M.refused result.1)) (M.runs result.1) result.2.items
         (O.written out.old) (O.written out.new) }
 
     // The causes of the other statuses.
@@ -64,14 +71,14 @@ pub fn tool<I: Source, O: Sink, M: Mapper>(
     // With the statuses before the first heap call nothing was written, and the mapper is as it was.
     ensures nothing { IsEarly result.0 → O.written out.new ≡ O.written out.old }
     ensures handed_back { IsEarly result.0 → result.1 ≡ mapper }
+    ensures unopened { IsEarly result.0 → result.2.items ≡ [] }
 {
     let prepared = match prepare(alloc, words, input) {
         Ok(prepared) => prepared,
-        Err(status) => return (status, mapper),
+        Err(status) => return (status, mapper, Vec::new(alloc)),
     };
-    let entries = 2 * count_ops(prepared.plan.logs.as_slice());
-    match PlainHeap::open(alloc, mapper, entries) {
-        Ok(heap) => run(prepared, heap, out),
-        Err((mapper, Host)) => (Status::Host, mapper),
+    match Fresh::for_plan(alloc, &prepared.plan, &mapper) {
+        Ok(fresh) => run::<Brand, _, _, _>(alloc, prepared, fresh, mapper, policy, out),
+        Err(Host) => (Status::Host, mapper, Vec::new(alloc)),
     }
 }

@@ -1,39 +1,208 @@
-ghost use Rattle.std.specs.Prelude.{◌≡◌, ◌≢◌, ◌↔◌, [], Bool, IfOk, IfSome, IfNone, Err, IsTrue, string_bytes, codes};
-ghost use Rattle.mng.specs.Words.{texts_of, serial_words, InLanguage};
+ghost use Rattle.std.specs.Prelude.{◌≡◌, ◌≤◌, ◌↔◌, IfOk, IfSome, IfNone, Err, [], unwrap_or};
+ghost use Rattle.mng.specs.Words.{texts_of, value_of, number_of, AsksSpace, InLanguage, ShowsCalls};
+ghost use Rattle.mng.specs.Givens.{pages_of, list_of, number_added, calls_added, pages_added, refuse_added, pair_added, options_added, given_of};
 
-use crate::asked::{Command, Setup};
+use crate::asked::{Command, Given, Setup};
+use crate::numbers::Numbers;
 use crate::status::Status;
-use ng_terms::Items;
+use ng_terms::{Host, Items};
 use std::alloc::Global;
 
 /// The pages of a space where the words don't tell.
 const PAGES: u32 = 4096;
 
-/// What the words ask, or `Usage` where they aren't in the language.
+/// What the words ask of the space, `Usage` where they aren't in the language, or `Host` for want of memory.
 pub fn setup(alloc: Global, words: &[String]) -> Result<Setup, Status>
-    ensures pages { IfOk result (λ setup. setup.pages ≡ 4096) }
-    ensures refuse { IfOk result (λ setup. setup.refuse ≡ []) }
+    ensures asked { IfOk result (λ setup. AsksSpace (texts_of words.now) setup.pages setup.refuse) }
+    ensures least { IfOk result (λ setup. 16 ≤ setup.pages) }
+    ensures most { IfOk result (λ setup. setup.pages ≤ 16384) }
     ensures usage { (result ≡ Err Status.Usage) ↔ ¬ InLanguage (texts_of words.now) }
 {
-    match command(words) {
-        Some(_) => Ok(Setup {
-            pages: PAGES,
-            refuse: Items::new(alloc),
+    let Some(given) = given(words) else {
+        return Err(Status::Usage);
+    };
+    match refused(alloc, given.refuse) {
+        Ok(refuse) => Ok(Setup {
+            pages: given.pages.unwrap_or(PAGES),
+            refuse,
         }),
-        None => Err(Status::Usage),
+        Err(_) => Err(Status::Host),
     }
 }
 
 /// The command that the words give. `None`: they aren't in the language.
 pub fn command(words: &[String]) -> Option<Command>
-    ensures some { IfSome result (λ command. texts_of words.now ≡ serial_words command.calls_shown) }
-    ensures none { IfNone result ((calls_shown : Bool) → texts_of words.now ≢ serial_words calls_shown) }
+    ensures some { IfSome result (λ command. ShowsCalls (texts_of words.now) command.calls_shown) }
+    ensures none { IfNone result (¬ InLanguage (texts_of words.now)) }
+{
+    let given = given(words)?;
+    Some(Command {
+        calls_shown: given.calls_shown,
+    })
+}
+
+/// The numbers of a list, or none where no list was given.
+fn refused(alloc: Global, numbers: Option<Numbers>) -> Result<Items<u64>, Host>
+    ensures { IfOk result (λ items. items ≡ unwrap_or numbers []) }
+{
+    match numbers {
+        Some(numbers) => numbers.into_items(alloc),
+        None => Ok(Items::new(alloc)),
+    }
+}
+
+/// What the words give.
+#[tactic(auto, unfolding(crate::specs::Givens::given_of))]
+fn given(words: &[String]) -> Option<Given>
+    ensures { result ≡ given_of (texts_of words.now) }
 {
     match words {
-        [name] if name.as_str() == "serial" => Some(Command { calls_shown: false }),
-        [name, option] if name.as_str() == "serial" && option.as_str() == "--calls" => {
-            Some(Command { calls_shown: true })
+        [name, options @ ..] if name.as_str() == "serial" => with_options(
+            Given {
+                calls_shown: false,
+                pages: None,
+                refuse: None,
+            },
+            options,
+        ),
+        _ => None,
+    }
+}
+
+/// What was given, and the options that the words begin with.
+#[tactic(auto, unfolding(crate::specs::Givens::options_added))]
+fn with_options(given: Given, words: &[String]) -> Option<Given>
+    ensures { result ≡ options_added given (texts_of words.now) }
+{
+    match words {
+        [] => Some(given),
+        [option, others @ ..] if option.as_str() == "--calls" => {
+            with_options(with_calls(given)?, others)
+        }
+        [option, text, others @ ..] => {
+            with_options(with_pair(given, option.as_str(), text.as_str())?, others)
         }
         _ => None,
+    }
+}
+
+/// What was given, and `--calls`.
+#[tactic(auto, unfolding(crate::specs::Givens::calls_added))]
+fn with_calls(given: Given) -> Option<Given>
+    ensures { result ≡ calls_added given }
+{
+    if given.calls_shown {
+        return None;
+    }
+    Some(Given {
+        calls_shown: true,
+        ..given
+    })
+}
+
+/// What was given, and an option with the text behind it.
+#[tactic(auto, unfolding(crate::specs::Givens::pair_added))]
+fn with_pair(given: Given, option: &str, text: &str) -> Option<Given>
+    ensures { result ≡ pair_added given option.now text.now }
+{
+    if option == "--pages" {
+        with_pages(given, text)
+    } else if option == "--refuse" {
+        with_refuse(given, text)
+    } else {
+        None
+    }
+}
+
+/// What was given, and `--pages` with its number.
+#[tactic(auto, unfolding(crate::specs::Givens::pages_added))]
+fn with_pages(given: Given, text: &str) -> Option<Given>
+    ensures { result ≡ pages_added given text.now }
+{
+    if given.pages.is_some() {
+        return None;
+    }
+    let pages = pages(text)?;
+    Some(Given {
+        pages: Some(pages),
+        ..given
+    })
+}
+
+/// What was given, and `--refuse` with its list.
+#[tactic(auto, unfolding(crate::specs::Givens::refuse_added))]
+fn with_refuse(given: Given, text: &str) -> Option<Given>
+    ensures { result ≡ refuse_added given text.now }
+{
+    if given.refuse.is_some() {
+        return None;
+    }
+    let numbers = list(text)?;
+    Some(Given {
+        refuse: Some(numbers),
+        ..given
+    })
+}
+
+/// The number of pages that a text writes.
+#[tactic(auto, unfolding(crate::specs::Givens::pages_of))]
+fn pages(text: &str) -> Option<u32>
+    ensures { result ≡ pages_of text.now }
+{
+    let number = number(text)?;
+    if 16 <= number && number <= 16384 {
+        Some(number as u32)
+    } else {
+        None
+    }
+}
+
+/// The numbers that a text lists.
+fn list(text: &str) -> Option<Numbers>
+    ensures { result ≡ list_of text.now }
+{
+    let mut numbers = Numbers::new();
+    for part in text.split(',') {
+        numbers = with_number(numbers, part)?;
+    }
+    Some(numbers)
+}
+
+/// The numbers so far, and the one that a text writes.
+#[tactic(auto, unfolding(crate::specs::Givens::number_added))]
+fn with_number(mut numbers: Numbers, text: &str) -> Option<Numbers>
+    ensures { result ≡ number_added numbers text.now }
+{
+    let number = number(text)?;
+    if 1 <= number && number <= 1_000_000 && numbers.push(number) {
+        Some(numbers)
+    } else {
+        None
+    }
+}
+
+/// The number that a text writes: `0x` and hexadecimal digits, or decimal digits.
+fn number(text: &str) -> Option<u64>
+    ensures { result ≡ number_of text.now }
+{
+    match text.strip_prefix("0x") {
+        Some(digits) => value(digits, 16),
+        None => value(text, 10),
+    }
+}
+
+/// The number that digits of this base write.
+fn value(digits: &str, base: u32) -> Option<u64>
+    requires least { 2 ≤ base }
+    requires most { base ≤ 36 }
+    ensures { result ≡ value_of base digits.now }
+{
+    // `from_str_radix` passes over a sign.
+    if digits.starts_with('+') {
+        return None;
+    }
+    match u64::from_str_radix(digits, base) {
+        Ok(number) => Some(number),
+        Err(_) => None,
     }
 }

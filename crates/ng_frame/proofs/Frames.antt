@@ -6,11 +6,12 @@ use Rattle.ng_geometry.proofs.Lists.{find_among, find_edit}
 use Rattle.ng_header.specs.Bytes.{byte_of}
 use Rattle.ng_header.specs.Cycle.{cycle_of}
 use Rattle.ng_moves.proofs.Load.{still_knows}
+use Rattle.ng_terms.specs.Heap.{extent}
 use Rattle.ng_view.specs.Blocks.{Knows}
 use Rattle.ng_view.specs.Frame.{IsGiven, IsShift, IsTrailer, KnowsByte, field_of, slack_of}
-use Rattle.ng_view.specs.Lists.{find}
+use Rattle.ng_view.specs.Lists.{edit, find}
 use Rattle.ng_view.specs.Places.{slot_start}
-use Rattle.ng_view.specs.Steps.{given, learnt, loaded, stored, wrote}
+use Rattle.ng_view.specs.Steps.{given, learnt, loaded, stored, with_block, wrote}
 use Rattle.ng_view.specs.Tells.{Tells}
 use Rattle.ng_view.specs.declared.view.Held.{Held}
 use Rattle.ng_view.specs.declared.view.Place.{Place}
@@ -20,7 +21,7 @@ use Rattle.ng_space.specs.Blocks.{HasFramed, IsReady, OfSlot, offset_in}
 use Rattle.ng_space.specs.Callers.{Caller}
 use Rattle.ng_space.specs.Tokens.{HasSlot, LiesAt, Token}
 use Rattle.ng_space.proofs.Holding.{find-loaded}
-use Rattle.ng_frame.specs.Keeps.{IsWhole, KeepsCells, KeepsOthers, Stays}
+use Rattle.ng_frame.specs.Keeps.{IsWhole, KeepsCells, KeepsOthers, Learns, LiesStill, Stays}
 use Rattle.ng_frame.specs.Puts.{Cycles, Puts}
 use Rattle.ng_frame.proofs.Bytes.{zero_kept, zero_made}
 use Rattle.ng_frame.proofs.Keeps.{booked_others, loaded_others, others_then, stays_loaded, stays_stored, stays_then, stored_others}
@@ -144,3 +145,18 @@ puts old one two three new slot o n p k x counter at is fits cycles mark trailer
 
 pub given_others : (v w : View) (slot : Token) (p n k x : ℕ) → w ≡ given v slot.meta slot.index p n 16 k x → KeepsOthers slot v w
 given_others v w slot p n k x gives = others_then slot v (stored v slot.meta slot.index (p - 4) x) w (stored_others slot v (stored v slot.meta slot.index (p - 4) x) (p - 4) x refl) (booked_others slot (stored v slot.meta slot.index (p - 4) x) w _ k _ gives)
+
+-- the slot of the block lies where it did
+pub given_still : (v one two three w : View) (slot : Token) (P Q : ℕ → Type 0) (p n k x : ℕ) → Stays slot.meta slot.index v one Learns
+    → Stays slot.meta slot.index one two (KeepsCells P) → Stays slot.meta slot.index two three (KeepsCells Q)
+    → w ≡ given three slot.meta slot.index p n 16 k x → Stays slot.meta slot.index v w LiesStill
+given_still v one two three w slot P Q p n k x cycles mark trailer gives h found =
+    let a = cycles h found in
+    let b = mark a.0 a.1 in
+    let c = trailer b.0 b.1 in (
+      with_block (Some (extent p n 16)) (wrote (p - 4) x c.0),
+      ap (λ (u : View). find slot.meta slot.index u.held) gives
+          ∙ find_edit slot.meta slot.index (with_block (Some (extent p n 16))) (edit slot.meta slot.index (wrote (p - 4) x) three.held) (wrote (p - 4) x c.0) (λ y. refl)
+          (find_edit slot.meta slot.index (wrote (p - 4) x) three.held c.0 (λ y. refl) c.1),
+      c.2.place ∙ b.2.place ∙ a.2.place,
+    )

@@ -1,5 +1,5 @@
 -- What loads, stores and gives leave of the slots in a view.
-use Rattle.std.proofs.Common.{◌≡◌, ◌≢◌, ◌⊎◌, ℕ, ◌-◌, ◌+◌, cond, Bool, true, false, List, [], ◌∷◌, ◌++◌, refl, sym, ap, ◌∙◌, ⊎_elim, inr}
+use Rattle.std.proofs.Common.{◌≡◌, ◌≢◌, ◌⊎◌, ℕ, ◌-◌, ◌+◌, cond, Bool, true, false, List, [], ◌∷◌, ◌++◌, map, refl, sym, ap, ◌∙◌, subst, ⊎_elim, inr}
 use Rattle.std.proofs.lemmas.List.{append-nil, append_assoc}
 use Rattle.std.specs.Prelude.{◌%◌, Option, Some, None}
 use Rattle.ng_terms.specs.declared.entry.Extent.{Extent}
@@ -16,7 +16,7 @@ use Rattle.ng_view.specs.declared.view.View.{View}
 use Rattle.ng_space.specs.Blocks.{BlockToken, Kills}
 use Rattle.ng_space.specs.Tokens.{Token}
 use Rattle.ng_space.proofs.Holding.{find-loaded}
-use Rattle.ng_frame.specs.Keeps.{KeepsAll, KeepsCells, KeepsOthers, KeepsRest, Learns, Stays}
+use Rattle.ng_frame.specs.Keeps.{CameFrom, IsOther, KeepsAll, KeepsCells, KeepsOthers, KeepsRest, Learns, Stays}
 
 -- ---- another slot than the one that is edited
 not_at : (m i k j : ℕ) (p : Place) → (k ≢ m) ⊎ (j ≢ i) → is_at m i p ≡ true → is_at k j p ≡ false
@@ -37,6 +37,15 @@ find-edit_other m i k j t (x ∷ xs) same ne = by_test (find-edit_other m i k j 
         ap (λ p. cond (is_at k j p) (Some (t x)) (find k j xs)) (same x) ∙ ap (λ b. cond b (Some (t x)) (find k j xs)) none ∙ sym (ap (λ b. cond b (Some x) (find k j xs)) none)
     by_test ih false here = ap (λ y. cond (is_at k j x.place) (Some x) y) ih
 
+-- ---- a slot that is there once each was changed
+find-map_back : (m i : ℕ) (t : Held → Held) (hs : List Held) (k : Held) → ((y : Held) → (t y).place ≡ y.place) → find m i (map t hs) ≡ Some k → (h : Held) × (find m i hs ≡ Some h) × (t h ≡ k)
+find-map_back m i t [] k same e = absurd (cc)
+find-map_back m i t (x ∷ xs) k same e = by_test (find-map_back m i t xs k same) (is_at m i x.place) (ap (λ p. cond (is_at m i p) (Some (t x)) (find m i (map t xs))) (sym (same x)) ∙ e)
+  where
+    by_test : (find m i (map t xs) ≡ Some k → (h : Held) × (find m i xs ≡ Some h) × (t h ≡ k)) → (b : Bool) → cond b (Some (t x)) (find m i (map t xs)) ≡ Some k → (h : Held) × (cond b (Some x) (find m i xs) ≡ Some h) × (t h ≡ k)
+    by_test ih true e = let q : t x ≡ k = cc in (x, refl, q)
+    by_test ih false e = ih e
+
 -- ---- one step
 learns_itself : (h : Held) → Learns h h
 learns_itself h = record { place = refl; block = refl; cells = λ a x p k. k }
@@ -51,6 +60,16 @@ learns_cell a x h = record { place = refl; block = refl; cells = λ b y p k. gro
 pub stays_loaded : (v w : View) (a x m i : ℕ) → w ≡ loaded v a x → Stays m i v w Learns
 stays_loaded v w a x m i is h found = (learnt a x h, ap (λ (u : View). find m i u.held) is ∙ find-loaded v a x m i h found, learns_cell a x h)
 
+came_loaded : (v w : View) (a x m i : ℕ) → w ≡ loaded v a x → CameFrom m i v w Learns
+came_loaded v w a x m i is k found =
+    let r = find-map_back m i (learnt a x) v.held k (λ y. refl) (ap (λ (u : View). find m i u.held) (sym is) ∙ found) in
+    (r.0, r.1, subst (λ y. Learns r.0 y) r.2 (learns_cell a x r.0))
+
+-- a slot other than the one that is edited
+came_edited : (slot : Token) (v w : View) (t : Held → Held) → ((y : Held) → (t y).place ≡ y.place) → w.held ≡ edit slot.meta slot.index t v.held → (m i : ℕ) → IsOther slot m i → CameFrom m i v w Learns
+came_edited slot v w t same is m i ne k found =
+    (k, sym (find-edit_other slot.meta slot.index m i t v.held same ne) ∙ ap (λ hs. find m i hs) (sym is) ∙ found, learns_itself k)
+
 pub stays_stored : (v w : View) (m i a x : ℕ) → w ≡ stored v m i a x → Stays m i v w (KeepsCells (λ b. b ≢ a))
 stays_stored v w m i a x is h found = (
   wrote a x h,
@@ -61,6 +80,7 @@ stays_stored v w m i a x is h found = (
 pub loaded_others : (slot : Token) (v w : View) (a x : ℕ) → w ≡ loaded v a x → KeepsOthers slot v w
 loaded_others slot v w a x is = record {
   slots = λ m i ne. stays_loaded v w a x m i is;
+  back = λ m i ne. came_loaded v w a x m i is;
   rest = record {
     excuses = ap (λ (u : View). u.excuses) is;
     sent = ap (λ (u : View). u.sent) is;
@@ -73,6 +93,7 @@ loaded_others slot v w a x is = record {
 pub loaded_all : (v w : View) (a x : ℕ) → w ≡ loaded v a x → KeepsAll v w
 loaded_all v w a x is = record {
   slots = λ m i. stays_loaded v w a x m i is;
+  back = λ m i. came_loaded v w a x m i is;
   rest = record {
     excuses = ap (λ (u : View). u.excuses) is;
     sent = ap (λ (u : View). u.sent) is;
@@ -85,6 +106,7 @@ loaded_all v w a x is = record {
 pub stored_others : (slot : Token) (v w : View) (a x : ℕ) → w ≡ stored v slot.meta slot.index a x → KeepsOthers slot v w
 stored_others slot v w a x is = record {
   slots = λ m i ne h found. (h, ap (λ (u : View). find m i u.held) is ∙ find-edit_other slot.meta slot.index m i (wrote a x) v.held (λ y. refl) ne ∙ found, learns_itself h);
+  back = came_edited slot v w (wrote a x) (λ y. refl) (ap (λ (u : View). u.held) is);
   rest = record {
     excuses = ap (λ (u : View). u.excuses) is;
     sent = ap (λ (u : View). u.sent) is;
@@ -97,6 +119,7 @@ stored_others slot v w a x is = record {
 pub booked_others : (slot : Token) (v w : View) (b : Option Extent) (k : ℕ) (e : Entry) → w ≡ booked_block v slot.meta slot.index b k e → KeepsOthers slot v w
 booked_others slot v w b k e is = record {
   slots = λ m i ne h found. (h, ap (λ (u : View). find m i u.held) is ∙ find-edit_other slot.meta slot.index m i (with_block b) v.held (λ y. refl) ne ∙ found, learns_itself h);
+  back = came_edited slot v w (with_block b) (λ y. refl) (ap (λ (u : View). u.held) is);
   rest = record {
     excuses = ap (λ (u : View). u.excuses) is;
     sent = ap (λ (u : View). u.sent) is;
@@ -118,6 +141,10 @@ pub stays_then : (P Q T : ℕ → Type 0) (m i : ℕ) (v u w : View) → ((a : �
 stays_then P Q T m i v u w both one two h found =
     let k = one h found in let l = two k.0 k.1 in (l.0, l.1, keeps_then P Q T h k.0 l.0 both k.2 l.2)
 
+came_then : (m i : ℕ) (v u w : View) → CameFrom m i v u Learns → CameFrom m i u w Learns → CameFrom m i v w Learns
+came_then m i v u w one two k found =
+    let j = two k found in let h = one j.0 j.1 in (h.0, h.1, keeps_then _ _ _ h.0 j.0 k (λ a t. (t, t)) h.2 j.2)
+
 rest_then : (v u w : View) → KeepsRest v u → KeepsRest u w → KeepsRest v w
 rest_then v u w one two = record {
   excuses = two.excuses ∙ one.excuses;
@@ -130,21 +157,24 @@ rest_then v u w one two = record {
 pub others_then : (slot : Token) (v u w : View) → KeepsOthers slot v u → KeepsOthers slot u w → KeepsOthers slot v w
 others_then slot v u w one two = record {
   slots = λ m i ne. stays_then _ _ _ m i v u w (λ a t. (t, t)) (one.slots m i ne) (two.slots m i ne);
+  back = λ m i ne. came_then m i v u w (one.back m i ne) (two.back m i ne);
   rest = rest_then v u w one.rest two.rest;
 }
 
 pub all_then : (v u w : View) → KeepsAll v u → KeepsAll u w → KeepsAll v w
 all_then v u w one two = record {
   slots = λ m i. stays_then _ _ _ m i v u w (λ a t. (t, t)) (one.slots m i) (two.slots m i);
+  back = λ m i. came_then m i v u w (one.back m i) (two.back m i);
   rest = rest_then v u w one.rest two.rest;
 }
 
 pub all_others : (slot : Token) (v w : View) → KeepsAll v w → KeepsOthers slot v w
-all_others slot v w all = record { slots = λ m i ne. all.slots m i; rest = all.rest }
+all_others slot v w all = record { slots = λ m i ne. all.slots m i; back = λ m i ne. all.back m i; rest = all.rest }
 
 pub all_itself : (v : View) → KeepsAll v v
 all_itself v = record {
   slots = λ m i h found. (h, found, learns_itself h);
+  back = λ m i k found. (k, found, learns_itself k);
   rest = record { excuses = refl; sent = refl; taken = refl; more = []; readings = sym (append-nil v.readings) };
 }
 

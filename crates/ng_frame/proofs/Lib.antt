@@ -5,3 +5,4 @@ pub mod Frames
 pub mod Trailers
 pub mod Lengths
 pub mod Tokens
+pub mod Framed

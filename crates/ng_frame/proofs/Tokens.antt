@@ -37,7 +37,7 @@ module _ (h k : Held) (p n : ℕ) (l : Learns h k) where
     shift = shift f.shift;
   }
 
-  learns_framed : IsFramed h p n → IsFramed k p n
+  pub learns_framed : IsFramed h p n → IsFramed k p n
   learns_framed f = subst (λ (z : Held). IsFramed z p n) (λ i. record k { place = sym l.place i }) (f.0, f.1, f.2, l.cells f.0 f.1 tt f.3, frames f.1 f.4)
 
 -- ---- another slot, another block

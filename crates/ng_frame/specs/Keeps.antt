@@ -16,9 +16,17 @@ pub record KeepsCells (P : ℕ → Type 0) (h k : Held) : Type 0 where
 abbrev pub Learns : Held → Held → Type 0
 Learns h k = KeepsCells (λ a. Unit {0}) h k
 
+-- the slot lies where it did
+abbrev pub LiesStill : Held → Held → Type 0
+LiesStill h k = k.place ≡ h.place
+
 -- the view has the slot before and after, and R holds of the two
 abbrev pub Stays : ℕ → ℕ → View → View → (Held → Held → Type 0) → Type 0
 Stays m i v w R = (h : Held) → find m i v.held ≡ Some h → (k : Held) × (find m i w.held ≡ Some k) × R h k
+
+-- a slot of the view after was there before, and R holds of the two
+abbrev pub CameFrom : ℕ → ℕ → View → View → (Held → Held → Type 0) → Type 0
+CameFrom m i v w R = (k : Held) → find m i w.held ≡ Some k → (h : Held) × (find m i v.held ≡ Some h) × R h k
 
 -- the slot i of the meta m isn't that of the token
 abbrev pub IsOther : Token → ℕ → ℕ → Type 0
@@ -32,14 +40,16 @@ pub record KeepsRest (v w : View) : Type 0 where
   pub more : List (ℕ × ℕ)
   pub readings : w.readings ≡ v.readings ++ more
 
--- each other slot is there, with the same place and block, and at least the same known cells
+-- each other slot is there, with the same place and block, and at least the same known cells, and none has come
 pub record KeepsOthers (slot : Token) (v w : View) : Type 0 where
   pub slots : (m i : ℕ) → IsOther slot m i → Stays m i v w Learns
+  pub back : (m i : ℕ) → IsOther slot m i → CameFrom m i v w Learns
   pub rest : KeepsRest v w
 
 -- so it is of every slot
 pub record KeepsAll (v w : View) : Type 0 where
   pub slots : (m i : ℕ) → Stays m i v w Learns
+  pub back : (m i : ℕ) → CameFrom m i v w Learns
   pub rest : KeepsRest v w
 
 -- the slot begins and ends at cells, and its room ends by the next header cell

@@ -1,3 +1,4 @@
 pub mod Keeps
 pub mod Puts
 pub mod Inspects
+pub mod Framed

@@ -2,6 +2,7 @@ ghost use Rattle.std.specs.Prelude.{◌≡◌, ◌+◌, ◌≤◌, ◌++◌, ◌
 ghost use Rattle.ng_terms.specs.declared.entry.Entry.TheVariants.{Take};
 ghost use Rattle.ng_space.specs.Blocks.{BlockToken, HasBlock, HasFramed};
 ghost use Rattle.ng_space.specs.Tokens.{HasSlot, Token};
+ghost use Rattle.ng_frame.specs.Framed.{AreFramed};
 ghost use Rattle.ng_frame.specs.Inspects.{Inspects, Takes};
 ghost use Rattle.ng_frame.specs.Keeps.{IsOther, KeepsAll, KeepsOthers};
 
@@ -41,6 +42,7 @@ pub fn take_out<N: Name>(
         → HasBlock hand.old other → HasBlock hand.new other }
     ensures frames { (other : BlockToken) → IsOther block.slot other.slot.meta other.slot.index
         → HasFramed hand.old other → HasFramed hand.new other }
+    ensures each { AreFramed hand.old.view → AreFramed hand.new.view }
     ensures number { hand.new.number ≡ hand.old.number }
 {
     match find_damage(space, hand, &block) {

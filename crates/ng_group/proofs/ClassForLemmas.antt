@@ -3,7 +3,7 @@ use Rattle.std.proofs.Common.{◌≡◌, ◌≢◌, ◌⊎◌, ℕ, ◌+◌, ◌
 use Rattle.std.specs.Bool.{IsTrue}
 use Rattle.std.proofs.lemmas.Bool.{cases_eq, eq-eqb, ne_eqb}
 use Rattle.std.specs.List.{slice_get}
-use Rattle.std.proofs.lemmas.List.{append_assoc, append_cancel_left}
+use Rattle.std.proofs.lemmas.List.{append_cancel_left}
 use Rattle.ng_lists.specs.Rings.{ring_of}
 use Rattle.ng_lists.proofs.MemberLemmas.{Contains-first}
 use Rattle.ng_lock_moves.specs.Loads.{Loads, freed_read}
@@ -21,8 +21,10 @@ use Rattle.ng_ledger.specs.Groups.{IsOfClass}
 use Rattle.ng_ledger.specs.Rings.{AreRinged}
 use Rattle.ng_ledger.specs.Standing.{Ledger}
 use Rattle.ng_ledger.proofs.RingLemmas.{grow}
+use Rattle.ng_serve.specs.Reads.{Notes, NotesBy, Reads}
+use Rattle.ng_serve.proofs.Readings.{notes_avail, notes_freed, notes_reads, notes_then, reads_none}
 use Rattle.ng_class.specs.Class.{IsLeastClass}
-use Rattle.ng_group.specs.ClassFor.{IsClassFor, IsReady}
+use Rattle.ng_group.specs.ClassFor.{IsClassFor, IsLooked, IsReady}
 use Rattle.ng_group.specs.Serving.{with_search}
 use Rattle.ng_group.specs.States.{IsResting, Resting, State, ledger_of}
 use Rattle.ng_group.specs.Steps.{Came}
@@ -62,15 +64,21 @@ abbrev pub with_masks : View → ℕ → ℕ → ℕ → View
 with_masks v m avail freed = read (freed_read (read (avail_read v m avail) (m + 24) avail) m freed) (m + 28) freed
 
 module _ {v : View} {m avail freed : ℕ} {u w : View} (reads : ReadsMasks v m avail freed u w) where
+  mid : u ≡ read (avail_read v m avail) (m + 24) avail
+  mid =
+      let same : reads.live.0.meta ≡ m = reads.live.2 in
+      subst (λ (k : ℕ). u ≡ read (avail_read v k avail) (m + 24) avail) same
+      (reads.first.avail reads.live.0 reads.live.1 (ap (λ k. k + 24) (sym same)))
+
+  last : w ≡ read (freed_read u m freed) (m + 28) freed
+  last =
+      let same : reads.live.0.meta ≡ m = reads.live.2 in
+      let still : Among reads.live.0 u.desk.groups = subst (λ (x : View). Among reads.live.0 x.desk.groups) (sym mid) reads.live.1 in
+      subst (λ (k : ℕ). w ≡ read (freed_read u k freed) (m + 28) freed) same
+      (reads.then'.freed reads.live.0 still (ap (λ k. k + 28) (sym same)))
+
   pub masks_view : w ≡ with_masks v m avail freed
-  masks_view =
-      let g = reads.live.0 in
-      let there = reads.live.1 in
-      let same : g.meta ≡ m = reads.live.2 in
-      let mid : u ≡ read (avail_read v m avail) (m + 24) avail = subst (λ (k : ℕ). u ≡ read (avail_read v k avail) (m + 24) avail) same (reads.first.avail g there (ap (λ k. k + 24) (sym same))) in
-      let still : Among g u.desk.groups = subst (λ (x : View). Among g x.desk.groups) (sym mid) there in
-      let last : w ≡ read (freed_read u m freed) (m + 28) freed = subst (λ (k : ℕ). w ≡ read (freed_read u k freed) (m + 28) freed) same (reads.then'.freed g still (ap (λ k. k + 28) (sym same))) in
-      subst (λ (x : View). w ≡ read (freed_read x m freed) (m + 28) freed) mid last
+  masks_view = subst (λ (x : View). w ≡ read (freed_read x m freed) (m + 28) freed) mid last
 
   pub masks_search : w ≡ with_search v w
   masks_search = subst (λ (x : View). x ≡ with_search v x) (sym masks_view) refl
@@ -78,14 +86,20 @@ module _ {v : View} {m avail freed : ℕ} {u w : View} (reads : ReadsMasks v m a
   abbrev pub words : List (ℕ × ℕ)
   words = (m + 24, avail) ∷ (m + 28, freed) ∷ []
 
+  noted : NotesBy v words w
+  noted =
+      let first : NotesBy v ((m + 24, avail) ∷ []) u = notes_avail v u m (m + 24) avail mid in
+      let second : NotesBy u ((m + 28, freed) ∷ []) w = notes_freed u w m (m + 28) freed last in
+      notes_then v u w ((m + 24, avail) ∷ []) ((m + 28, freed) ∷ []) first second
+
+  pub masks_notes : Notes v w
+  masks_notes = record { words = words; noted = noted }
+
   readings : w.readings ≡ v.readings ++ words
-  readings = ap (λ (x : View). x.readings) masks_view ∙ append_assoc {A = ℕ × ℕ} v.readings ((m + 24, avail) ∷ []) ((m + 28, freed) ∷ [])
+  readings = ap (λ (x : View). x.readings) noted.view
 
   pub masks_came : Came v w
   masks_came = record { words = words; readings = readings }
-
-  pub masks_next : w.desk.next ≡ v.desk.next
-  masks_next = ap (λ (x : View). x.desk.next) masks_view
 
   pub masks_words : (came : Came v w) → came.words ≡ words
   masks_words came = append_cancel_left {A = ℕ × ℕ} v.readings came.words words (sym came.readings ∙ readings)
@@ -151,14 +165,20 @@ module _ {M P : Type 0} (start : Start) (span : M → Span) (runs : M → List m
 pub came_at : {M P : Type 0} {s s' : State M P} {m avail freed : ℕ} {u w : View} → s ≡ s' → ReadsMasks s.seat m avail freed u w → Came s'.seat w
 came_at {M = M} {P = P} {w = w} same reads = subst (λ (x : State M P). Came x.seat w) same (masks_came reads)
 
-pub next_at : {M P : Type 0} {s s' : State M P} {m avail freed : ℕ} {u w : View} → s ≡ s' → ReadsMasks s.seat m avail freed u w → w.desk.next ≡ s'.seat.desk.next
-next_at {M = M} {P = P} {w = w} same reads = subst (λ (x : State M P). w.desk.next ≡ x.seat.desk.next) same (masks_next reads)
+pub notes_at : {M P : Type 0} {s s' : State M P} {m avail freed : ℕ} {u w : View} → s ≡ s' → ReadsMasks s.seat m avail freed u w → Notes s'.seat w
+notes_at {M = M} {P = P} {w = w} same reads = subst (λ (x : State M P). Notes x.seat w) same (masks_notes reads)
 
 pub ready_at : {M P : Type 0} {s s' : State M P} {m avail freed : ℕ} {u w : View} (class : ℕ) (ready : Bool) → s ≡ s' → ReadsMasks s.seat m avail freed u w
     → Some m ≡ slice_get (ring_of s.rings class) 0 → (IsTrue ready ↔ ((0 < avail % 2 ^ 32) ⊎ (0 < freed)))
     → (came : Came s'.seat w) → IsReady came.words (ring_of s'.rings class) ready
 ready_at {M = M} {P = P} {s = s} {w = w} class ready same reads first is =
     subst (λ (x : State M P). (came : Came x.seat w) → IsReady came.words (ring_of x.rings class) ready) same (λ came. masks_ready reads came (ring_of s.rings class) ready first is)
+
+-- nothing was read
+pub looked_same : {M P : Type 0} (s : State M P) → IsLooked s s
+looked_same s =
+    let none : Reads s.seat s.seat = reads_none s.seat s.seat refl in
+    record { state = refl; notes = record { words = none.words; noted = notes_reads s.seat s.seat none } }
 
 -- ---- a test of the two masks
 some_test : (n : ℕ) → IsTrue (not (nat_eq n 0)) ↔ (0 < n)

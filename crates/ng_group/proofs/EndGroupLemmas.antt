@@ -27,7 +27,7 @@ use Rattle.ng_serve.specs.declared.group.LiveGroup.{LiveGroup}
 use Rattle.ng_ledger.proofs.CarrierLemmas.{carrier}
 use Rattle.ng_ledger.proofs.GroupLemmas.{groups_were}
 use Rattle.ng_group.specs.Ending.{EndsGroup}
-use Rattle.ng_group.specs.Returning.{ComesInHand, HasReturned, HasWhole, IsAbove}
+use Rattle.ng_group.specs.Returning.{AreFewer, ComesInHand, HasReturned, HasWhole, IsAbove}
 use Rattle.ng_group.specs.Serving.{OnlyRing}
 use Rattle.ng_group.specs.States.{IsWorking, State, Working, ledger_of}
 use Rattle.ng_group.specs.Steps.{GoesOn}
@@ -91,6 +91,12 @@ module _ {M P : Type 0} {start : Start} {span : M → Span} {runs : M → List m
     next = ap (λ (v : View). v.desk.next) seat_is;
   })
 
+  -- no group came
+  fewer_still : (w : View) → w.desk.groups ≡ t.seat.desk.groups → AreFewer old.seat w
+  fewer_still w same g there =
+      let left : Among g (groups_but meta e.mid.seat.desk.groups) = subst (Among g) (same ∙ ap (λ (v : View). v.desk.groups) seat_is) there in
+      subst (λ (v : View). Among g v.desk.groups) e.only.view (groups_were e.mid.seat.desk.groups meta g left).0
+
   -- ---- a group on a run
   module _ (paged : 0 < found.maplen) (laid : AreLaid (span e.mid.mapper) (runs e.mid.mapper)) where
     has_pages : 0 < e.whole.group.maplen
@@ -127,6 +133,9 @@ module _ {M P : Type 0} {start : Start} {span : M → Span} {runs : M → List m
     module _ (w : View) (only : OnlyCells (without_run t.seat found.base) w) where
       dropped_is : w ≡ knowing (without_run (retired_nested e.mid.seat meta) e.whole.group.base) w.desk.cells w.readings
       dropped_is = only.view ∙ ap (λ (v : View). knowing (without_run v found.base) w.desk.cells w.readings) seat_is ∙ ap (λ b. knowing (without_run (retired_nested e.mid.seat meta) b) w.desk.cells w.readings) (sym e.is.base)
+
+      pub run_fewer : AreFewer old.seat w
+      run_fewer = fewer_still w (ap (λ (v : View). v.desk.groups) only.view)
 
       pub run_held : w.held ≡ []
       run_held = ap (λ (v : View). v.held) dropped_is ∙ none_back start.pages e.mid.seat meta e.works.stands.groups e.whole (e.ends.retires.uncarried e.whole.group e.whole.there e.whole.of_meta has_pages)
@@ -185,6 +194,9 @@ module _ {M P : Type 0} {start : Start} {span : M → Span} {runs : M → List m
 
         groups_are : w.desk.groups ≡ groups_but meta e.mid.seat.desk.groups
         groups_are = ap (λ (v : View). v.desk.groups) cleared_is
+
+        pub slot_fewer : AreFewer old.seat w
+        slot_fewer = fewer_still w (ap (λ (v : View). v.desk.groups) only.view)
 
         pub slot_on : GoesOn old.seat w
         slot_on = goes_then old.seat t.seat w goes (subst (λ (v : View). GoesOn t.seat v) (sym only.view) (record { came = record { words = []; readings = sym (append-nil t.seat.readings) }; next = refl }))

@@ -13,7 +13,6 @@ use Rattle.ng_lock_moves.specs.Notes.{plain_run}
 use Rattle.ng_view.specs.Layouts.{InArea}
 use Rattle.ng_view.specs.Lists.{Among}
 use Rattle.ng_view.specs.LockSteps.{groups_but, retired_nested, runs_but}
-use Rattle.ng_view.specs.declared.view.Group.{Group}
 use Rattle.ng_view.specs.declared.view.Held.{Held}
 use Rattle.ng_view.specs.declared.view.Layout.{Layout}
 use Rattle.ng_view.specs.declared.view.Start.{Start}
@@ -28,7 +27,7 @@ use Rattle.ng_ledger.specs.Usage.{AreUsed}
 use Rattle.ng_ledger.proofs.AreaLemmas.{KeepsAreas, area_at_stays, area_stays, areas_gone, areas_less}
 use Rattle.ng_ledger.proofs.CarrierLemmas.{carried_less, nested_less}
 use Rattle.ng_ledger.proofs.FoundedLemmas.{founded_gone, founded_less, none_left}
-use Rattle.ng_ledger.proofs.GroupLemmas.{drop_group, same_group, unborn_before, unborn_dropped, unborn_stays}
+use Rattle.ng_ledger.proofs.GroupLemmas.{drop_group, unborn_before, unborn_dropped, unborn_stays}
 use Rattle.ng_ledger.proofs.MetaLemmas.{area_places, blank_kept, free_kept_meta, free_kept_run, free_moved, free_retired, of_areas_moved, of_areas_retired, places_apart}
 use Rattle.ng_ledger.proofs.RingLemmas.{retire}
 use Rattle.ng_ledger.proofs.RunLemmas.{area_apart, mapped_gone}
@@ -44,9 +43,6 @@ module _ (start : Start) (span : Span) (live : List mapper.Run) (refused : Refus
   -- the meta of the group is one of an area, and none of the free ones
   pub whole_place : IsMetaPlace meta start.pages
   whole_place = subst (λ m. IsMetaPlace m start.pages) whole.of_meta (works.stands.groups.each whole.group whole.there).place
-
-  pub whole_only : (h : Group) → Among h l.seat.desk.groups → h.meta ≡ meta → h ≡ whole.group
-  whole_only h there of_meta = same_group start.pages l.seat.desk.groups h whole.group works.stands.groups there whole.there (of_meta ∙ sym whole.of_meta)
 
   not_free : ¬ Contains (free_of l.stock) meta
   not_free in' = (works.stands.free meta in').unborn whole.group whole.there whole.of_meta

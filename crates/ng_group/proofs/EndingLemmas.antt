@@ -25,7 +25,7 @@ use Rattle.ng_ledger.specs.Rings.{AreRinged, IsIn, IsTable, left}
 use Rattle.ng_ledger.specs.Standing.{Ledger}
 use Rattle.ng_ledger.proofs.ElementLemmas.{contains_get}
 use Rattle.ng_ledger.proofs.RingLemmas.{leave, stock_alone}
-use Rattle.ng_ledger.proofs.StepLemmas.{left_changes, left_first, left_unlisted}
+use Rattle.ng_ledger.proofs.StepLemmas.{left_first, left_unlisted}
 use Rattle.ng_ledger.proofs.TableLemmas.{in_listed, one_ring}
 use Rattle.ng_group.specs.Returning.{HasWhole}
 use Rattle.ng_group.specs.Serving.{OnlyRing, with_search}
@@ -63,9 +63,6 @@ module _ (v w : View) (m : ℕ) (is : w ≡ unlisted v m) where
   unlisted_search : w ≡ with_search v w
   unlisted_search = subst (λ (x : View). x ≡ with_search v x) (sym is) refl
 
-  pub unlisted_avail : w.desk.zero_avail ≡ v.desk.zero_avail
-  unlisted_avail = ap (λ (x : View). x.desk.zero_avail) is
-
   pub unlisted_whole : HasWhole v m → HasWhole w m
   unlisted_whole whole = subst (λ (x : View). HasWhole x m) (sym is) (record {
     group = whole.group;
@@ -88,17 +85,6 @@ module _ (v w : View) (m : ℕ) (is : w ≡ unlisted v m) where
       (subst (λ (x : View). AreRinged l.seat.desk.groups (others m x.desk.listed) x.desk.zero_avail t) seat
       (subst (AreRinged l.seat.desk.groups (others m l.seat.desk.listed) l.seat.desk.zero_avail) (sym turned)
       (leave l.seat.desk.groups l.seat.desk.listed l.seat.desk.zero_avail l.rings class m table in' works.stands.ringed))))
-
-  pub unlisted_only : {M P : Type 0} (class : ℕ) (s : State M P) (t : RingTable)
-      → s.seat ≡ v → IsIn s.rings class m → t ≡ left s.rings class m
-      → OnlyRing class s (record s { seat = w; rings = t })
-  unlisted_only {M} {P} class s t seat in' turned = record {
-    state = refl;
-    view = subst (λ (x : View). w ≡ with_search x w) (sym seat) unlisted_search;
-    came = record { words = (m + 28, 0) ∷ []; readings = ap (λ (x : View). x.readings) is ∙ ap (λ (x : View). x.readings ++ (m + 28, 0) ∷ []) (sym seat) };
-    rings = λ k apart. ap (λ (x : RingTable). ring_of x k) turned ∙ (left_changes s.rings class m in').others k apart;
-    bare = λ k n known apart there noted. subst (λ (ns : List ℕ). Among n ns) (ap (λ (x : View). x.desk.zero_avail) seat ∙ sym unlisted_avail) noted;
-  }
 
 -- and is in no ring
 pub left_out : (before after : RingTable) (class m : ℕ) → IsTable before → IsIn before class m → after ≡ left before class m → ¬ IsListed after m

@@ -9,6 +9,7 @@ pub mod MappingLemmas
 pub mod NestingLemmas
 pub mod ReturningLemmas
 pub mod RecursionLemmas
+pub mod HandBackLemmas
 pub mod SupplyLemmas
 pub mod OpeningLemmas
 pub mod LoneLemmas
@@ -25,4 +26,12 @@ pub mod EndGroupLemmas
 pub mod UncountLemmas
 pub mod WantLemmas
 pub mod AskingLemmas
+pub mod GroupWantLemmas
 pub mod SeatWantLemmas
+pub mod SeatSlotLemmas
+pub mod HandSlotLemmas
+pub mod HandKeepLemmas
+pub mod CallLemmas
+pub mod AskedLemmas
+pub mod LoneAskedLemmas
+pub mod TestLemmas

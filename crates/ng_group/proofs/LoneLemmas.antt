@@ -2,7 +2,6 @@
 use Rattle.std.proofs.Common.{◌≡◌, ◌≢◌, ◌⊎◌, ℕ, ◌+◌, ◌-◌, ◌*◌, ◌/◌, ◌%◌, ◌<◌, ◌≤◌, min, eqb, cond, Bool, false, true, List, [], ◌∷◌, ◌++◌, Contains, refl, sym, ap, subst, ◌∙◌, ⊎_elim, inl, inr, arith}
 use Rattle.std.proofs.lemmas.Bool.{cases_eq, eq-eqb}
 use Rattle.std.proofs.lemmas.Grind.{div_ceil_times}
-use Rattle.std.proofs.lemmas.List.{append_assoc}
 use Rattle.ng_build.specs.Cells.{knowing}
 use Rattle.ng_build.specs.Runs.{PublishesRun, with_group}
 use Rattle.ng_class.specs.Slot.{room_of, stride_of}
@@ -33,6 +32,7 @@ use Rattle.ng_mapper.specs.declared.refusals.Refusals.{Refusals}
 use Rattle.ng_mapper.proofs.LaidLemmas.{lies-contained}
 use Rattle.ng_meta.specs.Place.{IsMetaPlace}
 use Rattle.ng_shelf.specs.Stock.{free_of}
+use Rattle.ng_terms.specs.Accounts.{pages_for}
 use Rattle.ng_view.specs.Conditions.{Sees}
 use Rattle.ng_view.specs.Layouts.{InArea, IsLoneKind}
 use Rattle.ng_view.specs.Lists.{Among}
@@ -45,9 +45,10 @@ use Rattle.ng_view.specs.declared.view.Run.{Run}
 use Rattle.ng_view.specs.declared.view.Start.{Start}
 use Rattle.ng_view.specs.declared.view.View.{View}
 use Rattle.ng_group.specs.Building.{HasInHand}
+use Rattle.ng_group.specs.Lone.{BuildsAlone}
 use Rattle.ng_group.specs.Serving.{HasServed}
 use Rattle.ng_group.specs.States.{IsWorking, State, ledger_of}
-use Rattle.ng_group.specs.Steps.{GoesOn, HandsOver}
+use Rattle.ng_group.specs.Steps.{HandsOver}
 use Rattle.ng_group.proofs.MappingLemmas.{with_seat}
 
 -- what holds where a call builds such a group with a meta
@@ -70,6 +71,10 @@ pages_hold bytes pages is =
     let most : bytes ≤ (bytes / 4096 + min 1 (bytes % 4096)) * 4096 = (div_ceil_times bytes 4096 (omega arith)).0 in
     let same : (bytes / 4096 + min 1 (bytes % 4096)) * 4096 ≡ pages * 4096 = ap (λ n. n * 4096) (sym is) in
     omega (arith, most, same)
+
+-- and are those that a block's size asks for
+pub pages_asked : (bytes pages : ℕ) → pages ≡ (bytes + 16 + 4) / 4096 + min 1 ((bytes + 16 + 4) % 4096) → pages ≡ pages_for bytes
+pages_asked bytes pages is = omega arith
 
 lone_stride : (g : Group) → IsLoneKind g → 0 < g.maplen → stride g ≡ g.maplen * 4096 - 16
 unfolding stride
@@ -247,15 +252,6 @@ module _ {start : Start} {span span' : Span} {live live' : List mapper.Run} {was
         bookless = ap (λ (x : View). x.books) view ∙ old.bookless;
       }
 
-  pub on_alone : GoesOn l.seat w
-  on_alone = record {
-    came = record {
-      words = (0, c.note.found) ∷ (g.meta + 28, 0) ∷ [];
-      readings = ap (λ (x : View). x.readings) view ∙ append_assoc {A = ℕ × ℕ} l.seat.readings ((0, c.note.found) ∷ []) ((g.meta + 28, 0) ∷ []);
-    };
-    next = ap (λ (x : View). x.desk.next) view;
-  }
-
   hand_shown : HandsOver g.meta l (with_seat l shown)
   hand_shown = record {
     gone = λ hand. hand.unborn g (inl refl) refl;
@@ -283,5 +279,16 @@ module _ {start : Start} {span span' : Span} {live live' : List mapper.Run} {was
     roomy = lone_room g bytes c.kind c.paged fits;
   }
 
-  pub excuses_alone : w.excuses ≡ l.seat.excuses
-  excuses_alone = ap (λ (x : View). x.excuses) view
+  -- and nothing else did
+  pub built_alone : {M P : Type 0} (s s' e : State M P) (pages : ℕ) → s ≡ s' → s.seat ≡ l.seat → e.seat ≡ w → g.maplen ≡ pages → BuildsAlone g.meta pages s' e
+  built_alone {M = M} {P = P} s s' e pages same was is paged = subst (λ (x : State M P). BuildsAlone g.meta pages x e) same (record {
+    group = g;
+    of_meta = refl;
+    of_class = c.kind.lone;
+    alone = c.kind.single;
+    of_pages = paged;
+    groups = ap (λ (x : View). x.desk.groups) (is ∙ view) ∙ ap (λ (x : View). g ∷ x.desk.groups) (sym was);
+    run = ap (λ (x : View). x.desk.layout.runs) (is ∙ view)
+        ∙ ap (λ n. plain_run g.base n ∷ l.seat.desk.layout.runs) paged
+        ∙ ap (λ (x : View). plain_run g.base pages ∷ x.desk.layout.runs) (sym was);
+  })

@@ -7,13 +7,13 @@ use Rattle.ng_build.specs.Runs.{IsMetaOutside, PublishesRun, with_group}
 use Rattle.ng_group.specs.Building.{HasInHand, with_used}
 use Rattle.ng_group.specs.Serving.{HasServed}
 use Rattle.ng_group.specs.States.{IsWorking, State, ledger_of}
-use Rattle.ng_group.specs.Steps.{GoesOn, HandsOver, IsRefused, LeavesBelow}
+use Rattle.ng_group.specs.Steps.{HandsOver, LeavesBelow}
 use Rattle.ng_group.proofs.BuildingLemmas.{rings_below, usage_below, zero_grows}
 use Rattle.ng_ledger.specs.Groups.{IsGroup}
 use Rattle.ng_ledger.specs.Metas.{IsBlankMeta, IsFreeMeta}
 use Rattle.ng_ledger.specs.Rings.{IsBare, IsTable, entered_first}
 use Rattle.ng_ledger.specs.Runs.{AreMapped, HasRun}
-use Rattle.ng_ledger.specs.Standing.{KeepsHand, Ledger, Stands}
+use Rattle.ng_ledger.specs.Standing.{Ledger, Stands}
 use Rattle.ng_ledger.specs.Usage.{AreUsed}
 use Rattle.ng_ledger.proofs.AreaLemmas.{area_at_stays, area_stays, areas_more, areas_plain}
 use Rattle.ng_ledger.proofs.CarrierLemmas.{nested_more}
@@ -239,12 +239,6 @@ module _ {start : Start} {span span' : Span} {live live' : List mapper.Run} {was
         bookless = ap (λ (x : View). x.books) view ∙ old.bookless;
       }
 
-  pub on_mapped : GoesOn l.seat w
-  on_mapped = record {
-    came = record { words = (0, c.note.found) ∷ []; readings = ap (λ (x : View). x.readings) view };
-    next = ap (λ (x : View). x.desk.next) view;
-  }
-
   hand_shown : HandsOver g.meta l (after_run shown)
   hand_shown = record {
     gone = λ hand. hand.unborn g (inl refl) refl;
@@ -281,12 +275,6 @@ module _ {start : Start} {span span' : Span} {live live' : List mapper.Run} {was
     motion = motion_mapped idle;
     roomy = roomy;
   }
-
-  pub excuses_mapped : w.excuses ≡ l.seat.excuses
-  excuses_mapped = ap (λ (x : View). x.excuses) view
-
-  pub runs_mapped : w.desk.layout.runs ≡ runs
-  runs_mapped = ap (λ (x : View). x.desk.layout.runs) view
 
 -- ---- a map call was refused
 
@@ -326,35 +314,6 @@ module _ {start : Start} {span : Span} {live : List mapper.Run} {was now : Refus
     leads = ap (λ (x : View). x.leads) refuses.note.view ∙ old.leads;
     bookless = ap (λ (x : View). x.books) refuses.note.view ∙ old.bookless;
   }
-
-  pub on_refused : GoesOn l.seat u
-  on_refused = record {
-    came = record { words = (0, refuses.note.found) ∷ []; readings = ap (λ (x : View). x.readings) refuses.note.view };
-    next = ap (λ (x : View). x.desk.next) refuses.note.view;
-  }
-
-  pub below_refused : (class : ℕ) → LeavesBelow class l (with_seat l u)
-  below_refused class = record {
-    rings = λ k below. refl;
-    usage = λ k below. refl;
-    bare = λ k n below in' there. subst (λ (x : View). Among n x.desk.zero_avail) (sym refuses.note.view) there;
-  }
-
-  hand_left : KeepsHand l (with_seat l left)
-  hand_left = record { none_more = λ n hand. hand; none_less = λ n hand. hand; blank = λ n hand blank. blank }
-
-  pub hand_refused : KeepsHand l (with_seat l u)
-  hand_refused = subst (λ (x : View). KeepsHand l (with_seat l x)) (sym refuses.note.view) hand_left
-
-  pub is_refused : IsRefused number l.seat u was now
-  is_refused = record {
-    number_is = refuses.number_is;
-    rose = refuses.rose;
-    excuse = ap (λ (x : View). x.excuses) refuses.note.view;
-  }
-
-  pub held_refused : u.held ≡ l.seat.held
-  held_refused = ap (λ (x : View). x.held) refuses.note.view
 
   pub view_refused : u ≡ record l.seat { excuses = u.excuses; readings = u.readings; desk = record l.seat.desk { refusals = u.desk.refusals } }
   view_refused = subst (λ (x : View). x ≡ record l.seat { excuses = x.excuses; readings = x.readings; desk = record l.seat.desk { refusals = x.desk.refusals } }) (sym refuses.note.view) refl

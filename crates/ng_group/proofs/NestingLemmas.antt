@@ -28,7 +28,6 @@ use Rattle.ng_ledger.proofs.MetaLemmas.{area_places, of_areas_born, of_areas_mov
 use Rattle.ng_ledger.proofs.RingLemmas.{first}
 use Rattle.ng_ledger.proofs.ServedLemmas.{served_more}
 use Rattle.ng_ledger.proofs.UsageLemmas.{published}
-use Rattle.ng_lock_moves.specs.Fetches.{HasGroup}
 use Rattle.ng_mapper.specs.Mapping.{AreLaid, IsSpan, Span}
 use Rattle.ng_mapper.specs.Runs as mapper
 use Rattle.ng_mapper.specs.declared.refusals.Refusals.{Refusals}
@@ -111,14 +110,8 @@ module _ {start : Start} {span : Span} {live : List mapper.Run} {refused : Refus
   pub carrier_group : IsGroup start.pages served.group
   carrier_group = old.stands.groups.each p served.there
 
-  pub carrier_place : IsMetaPlace parent start.pages
-  carrier_place = subst (λ m. IsMetaPlace m start.pages) served.of_meta carrier_group.place
-
   pub carrier_low : served.group.base + 16 < 2 ^ 64
   carrier_low = let inside : p.base + reach p ≤ 4096 * start.pages = carrier_group.inside in omega (arith, inside, addressed)
-
-  pub carrier_live : HasGroup l.seat parent
-  carrier_live = record { group = p; there = served.there; of_meta = served.of_meta }
 
   pub carrier_few : index < 32
   carrier_few = omega (arith, served.within, carrier_group.few)

@@ -21,7 +21,7 @@ use Rattle.ng_ledger.proofs.HandLemmas.{blanked}
 use Rattle.ng_ledger.proofs.ServedLemmas.{settled}
 use Rattle.ng_ledger.proofs.TableLemmas.{nowhere, tail_in}
 use Rattle.ng_ledger.proofs.UsageLemmas.{bounded}
-use Rattle.ng_group.specs.Opening.{AreEmpty, IsFreshMapper, IsFreshSeat}
+use Rattle.ng_group.specs.Opening.{AreEmpty, IsFreshMapper, IsFreshSeat, IsHandedBack}
 use Rattle.ng_group.specs.States.{IsResting, IsWorking, Resting, State, Working}
 
 -- ---- the usage of a class is far below 2 ^ 32
@@ -128,3 +128,15 @@ pub blanked_at : {M P : Type 0} (start : Start) (span : M → Span) (runs : M �
     → s ≡ s' → Resting start span runs refused s → IsBlanked s'.seat
 blanked_at {M = M} {P = P} start span runs refused {s = s} same rests =
     subst (λ (x : State M P). IsBlanked x.seat) same (blanked start.pages s.seat (free_of s.stock) rests.working.stands.free rests.at_rest)
+
+pub handed_at : {M P : Type 0} (start : Start) (span : M → Span) (runs : M → List mapper.Run) (refused : M → Refusals) {s s' : State M P}
+    → s ≡ s' → Resting start span runs refused s → IsHandedBack s'.seat (runs s'.mapper) (refused s'.mapper)
+handed_at {M = M} {P = P} start span runs refused {s = s} same rests =
+    subst (λ (x : State M P). IsHandedBack x.seat (runs x.mapper) (refused x.mapper)) same (record {
+      mapped = rests.working.stands.mapped;
+      counted = rests.working.counted;
+      leads = rests.working.leads;
+      still = rests.still;
+      answered = rests.answered;
+      bookless = rests.working.bookless;
+    })

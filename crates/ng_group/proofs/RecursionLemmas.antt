@@ -1,26 +1,31 @@
 -- Metas that a call takes in hand and lets go, and what a return of a slot leaves.
-use Rattle.std.proofs.Common.{◌≡◌, ◌≢◌, ℕ, List, [], ◌∷◌, ◌++◌, refl, sym, subst}
+use Rattle.std.proofs.Common.{◌≡◌, ◌≢◌, ℕ, ◌<◌, Bool, true, false, true≢false, List, [], ◌∷◌, ◌++◌, Contains, refl, sym, ap, ◌∙◌, subst, arith}
 use Rattle.ng_mapper.specs.Mapping.{Span}
 use Rattle.ng_mapper.specs.Runs as mapper
 use Rattle.ng_mapper.specs.declared.refusals.Refusals.{Refusals}
 use Rattle.ng_meta.specs.Place.{IsMetaPlace}
-use Rattle.ng_shelf.specs.Stock.{Stock}
+use Rattle.ng_shelf.specs.Stock.{Stock, free_of}
 use Rattle.ng_view.specs.Lists.{Among}
 use Rattle.ng_view.specs.declared.view.Group.{Group}
 use Rattle.ng_view.specs.declared.view.Start.{Start}
 use Rattle.ng_view.specs.declared.view.View.{View}
+use Rattle.ng_policy.specs.declared.ask.Spare.{Spare}
+use Rattle.ng_ledger.specs.Groups.{IsUnborn}
 use Rattle.ng_ledger.specs.Metas.{IsBlankMeta}
 use Rattle.ng_ledger.specs.Standing.{InHand, KeepsHand, Ledger}
 use Rattle.ng_ledger.proofs.HandLemmas.{hand_put_other, hand_put_was, keeps_hand-same, keeps_hand-trans}
 use Rattle.ng_ledger.proofs.MetaLemmas.{free_put}
+use Rattle.ng_mask.specs.Fetches.{OfGroup}
+use Rattle.ng_serve.specs.Groups.{Describes}
 use Rattle.ng_serve.specs.Reads.{Reads}
+use Rattle.ng_serve.specs.declared.group.LiveGroup.{LiveGroup}
 use Rattle.ng_group.specs.Building.{HasInHand}
 use Rattle.ng_group.specs.Returning as returning
-use Rattle.ng_group.specs.Returning.{HasWhole}
-use Rattle.ng_group.specs.Serving.{OnlyRing}
+use Rattle.ng_group.specs.Returning.{AreFewer, HasReturned, HasWhole, IsAbove, Returns, TakesWhole}
+use Rattle.ng_group.specs.Serving.{OnlyRing, with_search}
 use Rattle.ng_group.specs.States.{IsWorking, State, Working, ledger_of}
-use Rattle.ng_group.specs.Steps.{GoesOn, HandsOver}
-use Rattle.ng_group.proofs.WorkingLemmas.{goes_same, goes_then, only_goes, only_hand}
+use Rattle.ng_group.specs.Steps.{Came, GoesOn, HandsOver}
+use Rattle.ng_group.proofs.WorkingLemmas.{came_same, goes_same, goes_then, only_goes, only_hand, searched}
 
 -- the meta of a live group has its place
 pub place_of : (start : Start) (span : Span) (live : List mapper.Run) (refused : Refusals) (l : Ledger) (g : Group) (meta : ℕ)
@@ -151,6 +156,31 @@ ended_brings start g meta before after place there of_meta comes = record {
 
 -- ---- a slot is returned
 
+-- the numbers of a group are the same once its ring was searched, or words were read
+pub describes_searched : (v w : View) (meta : ℕ) (found : LiveGroup) → w ≡ with_search v w → OfGroup v meta (Describes found) → OfGroup w meta (Describes found)
+describes_searched v w meta found view describes g there of_meta = describes g (subst (λ (x : View). Among g x.desk.groups) view there) of_meta
+
+pub describes_read : (v w : View) (meta : ℕ) (found : LiveGroup) → Reads v w → OfGroup v meta (Describes found) → OfGroup w meta (Describes found)
+describes_read v w meta found reads describes g there of_meta = describes g (subst (λ (x : View). Among g x.desk.groups) reads.view there) of_meta
+
+-- and so is the slot
+pub returned_read : (v w : View) (meta index : ℕ) → Reads v w → HasReturned v meta index → HasReturned w meta index
+returned_read v w meta index reads has = subst (λ (x : View). HasReturned x meta index) (sym reads.view) (record {
+  group = has.group;
+  there = has.there;
+  of_meta = has.of_meta;
+  within = has.within;
+  slot = has.slot;
+  held = has.held;
+  of_group = has.of_group;
+  of_index = has.of_index;
+  bare = has.bare;
+})
+
+-- the group around one that ended is of a class above it
+pub above : (v : View) (meta index class : ℕ) (found : LiveGroup) → HasReturned v meta index → IsAbove class v meta → OfGroup v meta (Describes found) → class < found.class
+above v meta index class found has is describes = omega (arith, is has.group has.there has.of_meta, (describes has.group has.there has.of_meta).tag)
+
 -- what a call keeps, whatever it does
 pub record Keeps {M P : Type 0} (start : Start) (span : M → Span) (runs : M → List mapper.Run) (refused : M → Refusals) (before after : State M P) : Type 0 where
   pub working : Working start span runs refused after
@@ -160,6 +190,10 @@ pub record Keeps {M P : Type 0} (start : Start) (span : M → Span) (runs : M �
 module _ {M P : Type 0} (start : Start) (span : M → Span) (runs : M → List mapper.Run) (refused : M → Refusals) where
   pub keeps_same : (s : State M P) → Working start span runs refused s → Keeps start span runs refused s s
   keeps_same s works = record { working = works; on = goes_same s.seat; hand = keeps_hand-same (ledger_of s) }
+
+  pub keeps_told : (before after : State M P) → Working start span runs refused after → GoesOn before.seat after.seat → KeepsHand (ledger_of before) (ledger_of after)
+      → Keeps start span runs refused before after
+  keeps_told before after works on hand = record { working = works; on = on; hand = hand }
 
   -- words were read
   pub reads_keeps : (s : State M P) (w : View) → Reads s.seat w → Working start span runs refused s
@@ -171,32 +205,24 @@ module _ {M P : Type 0} (start : Start) (span : M → Span) (runs : M → List m
   })
     where
       seen : (words : List (ℕ × ℕ)) → Working start span runs refused (record s { seat = record s.seat { readings = words } })
-      seen words = record {
-        space = record {
-          lower = works.space.lower;
-          upper = works.space.upper;
-          size = works.space.size;
-          rings = works.space.rings;
-          stock = works.space.stock;
-          parents = works.space.parents;
-        };
-        stands = record {
-          groups = works.stands.groups;
-          ringed = works.stands.ringed;
-          free = works.stands.free;
-          of_areas = works.stands.of_areas;
-          area = works.stands.area;
-          mapped = works.stands.mapped;
-          served = works.stands.served;
-          founded = works.stands.founded;
-          used = works.stands.used;
-          nested = works.stands.nested;
-          carried = works.stands.carried;
-        };
-        counted = works.counted;
-        leads = works.leads;
-        bookless = works.bookless;
-      }
+      seen words = searched start (span s.mapper) (runs s.mapper) (refused s.mapper) (ledger_of s) (record s.seat { readings = words }) s.rings works refl refl
+          works.stands.ringed
+
+  -- so too of the core whose parts are named
+  pub keeps_read : {s s' : State M P} (w : View) → s ≡ s' → Reads s.seat w → Working start span runs refused s'
+      → Keeps start span runs refused s' (record s { seat = w })
+  keeps_read {s} {s'} w same reads works =
+      subst (λ (x : State M P). Keeps start span runs refused x (record s { seat = w })) same
+      (reads_keeps s w reads (subst (λ (x : State M P). Working start span runs refused x) (sym same) works))
+
+  -- a meta in hand may be put
+  pub place_at : {e mid : State M P} (meta : ℕ) → e ≡ mid → Working start span runs refused mid → HasInHand start (ledger_of mid) meta → IsMetaPlace meta e.stock.pages
+  place_at {e} {mid} meta same works has =
+      subst (λ (s : State M P). IsMetaPlace meta s.stock.pages) (sym same)
+      (subst (λ (n : ℕ). IsMetaPlace meta n) (sym works.space.stock) has.free.place)
+
+  pub absent_at : {e mid : State M P} (meta : ℕ) → e ≡ mid → HasInHand start (ledger_of mid) meta → ¬ Contains (free_of e.stock) meta
+  absent_at {e} {mid} meta same has = subst (λ (s : State M P). ¬ Contains (free_of s.stock) meta) (sym same) has.taken
 
   pub keeps_then : (before mid after : State M P) → Keeps start span runs refused before mid → Keeps start span runs refused mid after
       → Keeps start span runs refused before after
@@ -225,9 +251,92 @@ module _ {M P : Type 0} (start : Start) (span : M → Span) (runs : M → List m
     pub has_ended : HasInHand start (ledger_of mid) meta
     has_ended = brings.has
 
-    pub ends : Keeps start span runs refused before (record mid { stock = stocked mid.stock meta })
-    ends = record {
+    ended_keeps : Keeps start span runs refused before (record mid { stock = stocked mid.stock meta })
+    ended_keeps = record {
       working = put_works start (span mid.mapper) (runs mid.mapper) (refused mid.mapper) (ledger_of mid) meta keeps.working has_ended;
       on = goes_then before.seat whole.seat mid.seat kept.on (goes_then whole.seat ended.seat mid.seat on keeps.on);
       hand = brings_put start meta (ledger_of before) (ledger_of mid) brings;
     }
+
+    pub ends : {e : State M P} {put' : Stock} → e ≡ mid → put' ≡ stocked e.stock meta → Keeps start span runs refused before (record e { stock = put' })
+    ends {e} {put'} same puts =
+        subst (λ (x : Stock). Keeps start span runs refused before (record e { stock = x })) (sym puts)
+        (subst (λ (s : State M P). Keeps start span runs refused before (record s { stock = stocked s.stock meta })) (sym same) ended_keeps)
+
+-- ---- what a return tells
+fewer_same : (v : View) → AreFewer v v
+fewer_same v g among = among
+
+pub fewer_then : (u v w : View) → AreFewer u v → AreFewer v w → AreFewer u w
+fewer_then u v w first second g among = first g (second g among)
+
+module _ {M P : Type 0} where
+  -- no group came
+  pub only_fewer : (class : ℕ) (before after : State M P) → OnlyRing class before after → AreFewer before.seat after.seat
+  only_fewer class before after only g among = subst (λ (v : View). Among g v.desk.groups) only.view among
+
+  pub fewer_at : {s now : State M P} (v : View) → s ≡ now → AreFewer v now.seat → AreFewer v s.seat
+  fewer_at {s} {now} v same fewer = subst (λ (x : State M P). AreFewer v x.seat) (sym same) fewer
+
+  pub fewer_read : {s now : State M P} (w : View) → s ≡ now → Reads s.seat w → AreFewer now.seat w
+  fewer_read {s} {now} w same reads = subst (λ (x : State M P). AreFewer x.seat w) same (λ g among. subst (λ (v : View). Among g v.desk.groups) reads.view among)
+
+  -- words were read
+  pub came_read : {s now : State M P} (w : View) → s ≡ now → Reads s.seat w → Came now.seat w
+  came_read {s} {now} w same reads = subst (λ (x : State M P). Came x.seat w) same
+      (record { words = reads.words; readings = ap (λ (v : View). v.readings) reads.view })
+
+  -- the slot around one that ended is in the seat, of a group of a greater class
+  pub around_above : {s now : State M P} (meta index class : ℕ) (found : LiveGroup) → s ≡ now → HasReturned now.seat meta index → IsAbove class now.seat meta
+      → OfGroup s.seat meta (Describes found) → class < found.class
+  around_above {s} {now} meta index class found same has is describes =
+      above now.seat meta index class found has is (subst (λ (x : State M P). OfGroup x.seat meta (Describes found)) same describes)
+
+  pub around_returned : {s now : State M P} (w : View) (meta index : ℕ) → s ≡ now → Reads s.seat w → HasReturned now.seat meta index → HasReturned w meta index
+  around_returned {s} {now} w meta index same reads has = returned_read s.seat w meta index reads (subst (λ (x : State M P). HasReturned x.seat meta index) (sym same) has)
+
+  -- the slot went back, and the same groups live
+  pub returns_back : (keeps : Spare → Bool → Type 0) (runs : M → List mapper.Run) (class : ℕ) (before after : State M P) (meta index : ℕ) (found : LiveGroup) (answer : Bool)
+      → answer ≡ false → TakesWhole keeps before meta index found answer after.seat → OnlyRing class before after → Returns keeps runs before after meta index found
+  returns_back keeps runs class before after meta index found answer is takes only = record {
+    answer = answer;
+    taken = after.seat;
+    takes = takes;
+    came = came_same after.seat;
+    unborn = λ whole. absurd (true≢false (sym whole ∙ is));
+    unmapped = λ whole. absurd (true≢false (sym whole ∙ is));
+    groups = λ back. ap (λ (v : View). v.desk.groups) only.view;
+    stays = λ back. ap (λ (s : State M P). runs s.mapper) only.state;
+  }
+
+  -- the group ended, and no group came then
+  module _ (keeps : Spare → Bool → Type 0) (runs : M → List mapper.Run) (before : State M P) (meta index : ℕ) (found : LiveGroup) (answer : Bool) (taken : View)
+      (is : answer ≡ true) (takes : TakesWhole keeps before meta index found answer taken) where
+    returns_ended : (ended : View) (after : State M P) → Came taken after.seat → IsUnborn ended.desk.groups meta → AreFewer ended after.seat
+        → (0 < found.maplen → ¬ Contains (runs after.mapper) (found.base, found.maplen))
+        → Returns keeps runs before after meta index found
+    returns_ended ended after came unborn fewer unmapped = record {
+      answer = answer;
+      taken = taken;
+      takes = takes;
+      came = came;
+      unborn = λ whole g among. unborn g (fewer g among);
+      unmapped = λ whole. unmapped;
+      groups = λ back. absurd (true≢false (sym is ∙ back));
+      stays = λ back. absurd (true≢false (sym is ∙ back));
+    }
+
+    -- with its run
+    pub returns_run : {s now : State M P} (put' : Stock) → s ≡ now → Came taken now.seat → IsUnborn now.seat.desk.groups meta → ¬ Contains (runs now.mapper) (found.base, found.maplen)
+        → Returns keeps runs before (record s { stock = put' }) meta index found
+    returns_run {s} {now} put' same came unborn unmapped = subst (λ (x : State M P). Returns keeps runs before (record x { stock = put' }) meta index found) (sym same)
+        (returns_ended now.seat (record now { stock = put' }) came unborn (fewer_same now.seat) (λ paged. unmapped))
+
+    -- or in the slot of another, which was returned
+    pub returns_slot : {s now : State M P} (put' : Stock) (ended : View) → s ≡ now → Came taken now.seat → IsUnborn ended.desk.groups meta → AreFewer ended now.seat → found.maplen ≡ 0
+        → Returns keeps runs before (record s { stock = put' }) meta index found
+    returns_slot {s} {now} put' ended same came unborn fewer nested = subst (λ (x : State M P). Returns keeps runs before (record x { stock = put' }) meta index found) (sym same)
+        (returns_ended ended (record now { stock = put' }) came unborn fewer (λ paged. absurd (none paged)))
+      where
+        none : 0 < found.maplen → ⊥
+        none paged = omega arith

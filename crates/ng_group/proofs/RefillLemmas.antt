@@ -24,7 +24,6 @@ use Rattle.ng_ledger.proofs.RingLemmas.{grow}
 use Rattle.ng_ledger.proofs.TableLemmas.{nowhere}
 use Rattle.ng_group.specs.Serving.{FindsNoFreed, FindsNoSlot, StartsWalk}
 use Rattle.ng_group.specs.States.{State, Working}
-use Rattle.ng_group.proofs.WorkingLemmas.{came_same}
 use Rattle.ng_group.proofs.GrowLemmas.{none_grows, notes_held}
 
 -- ---- none is available in it
@@ -66,20 +65,6 @@ no_slot {M} {P} s now after class first w same finds freed = subst (λ (u : Stat
   held = freed.held ∙ none_held s.seat w first finds;
   bounces = freed.bounces;
 })
-
--- the ring is empty
-pub no_group : {M P : Type 0} (s now : State M P) (class : ℕ) → s ≡ now → ring_of now.rings class ≡ [] → FindsNoSlot class now s
-no_group {M} {P} s now class same empty = subst (λ (u : State M P). FindsNoSlot class u s) same (record {
-  came = came_same s.seat;
-  read = λ m in'. absurd (out m in');
-  left = inl refl;
-  bare = λ m in'. absurd (out m in');
-  held = refl;
-  bounces = refl;
-})
-  where
-    out : (m : ℕ) → IsIn s.rings class m → ⊥
-    out m in' = nowhere m (subst (λ (xs : List ℕ). Contains xs m) (ap (λ (u : State M P). ring_of u.rings class) same ∙ empty) in')
 
 -- ---- the walk finds no freed slot
 pub no_freed : {M P : Type 0} (s now after : State M P) (class first : ℕ) (w : View)

@@ -1,9 +1,10 @@
 -- What a call for a slot builds and asks for, by the contracts of its calls.
-use Rattle.std.proofs.Common.{◌≡◌, ◌⊎◌, ◌↔◌, ℕ, ◌+◌, ◌*◌, ◌<◌, Bool, true, false, IsTrue, List, ◌∷◌, Err, Ok, OnErr, OnOk, Result, refl, sym, ap, ◌∙◌, subst, arith}
+use Rattle.std.proofs.Common.{◌≡◌, ◌⊎◌, ◌↔◌, ℕ, ◌+◌, ◌*◌, ◌<◌, Bool, true, false, IsTrue, List, ◌∷◌, refl, sym, ap, ◌∙◌, subst, arith}
 use Rattle.ng_view.specs.Lists.{count_of}
 use Rattle.ng_class.specs.Class.{IsLeastClass, units_of}
 use Rattle.ng_lock_moves.specs.Notes.{plain_run}
 use Rattle.ng_mapper.specs.Runs as mapper
+use Rattle.ng_mapper.specs.declared.refusals.Refusals.{Refusals}
 use Rattle.ng_policy.specs.Ask.{IsCount}
 use Rattle.ng_policy.specs.declared.ask.Ask.{Ask}
 use Rattle.ng_shelf.specs.Shape.{IsNestedSize, shape_of}
@@ -16,7 +17,8 @@ use Rattle.ng_group.specs.Building.{HasBuilt, IsAsk, LeavesAll}
 use Rattle.ng_group.specs.Serving.{FindsNoSlot, OnlyRing}
 use Rattle.ng_group.specs.States.{State, ledger_of}
 use Rattle.ng_group.specs.Steps.{GoesOn, LeavesBelow}
-use Rattle.ng_group.proofs.AskingLemmas.{builds_nested, builds_run, found_seeks, none_inside, only_inside, run_cause, run_leaves, slot_cause, slot_leaves, takes}
+use Rattle.ng_group.proofs.AskingLemmas.{found_seeks, takes}
+use Rattle.ng_group.proofs.GroupWantLemmas.{builds_nested, builds_run, run_cause, run_leaves, slot_cause, slot_leaves}
 use Rattle.ng_group.proofs.WantLemmas.{Seeks, TakesArea, TakesFree, asked_moved}
 
 -- ---- what a test and an answer tell
@@ -28,19 +30,18 @@ is_large b tells is q =
     let one : count_of true ≡ count_of false = ap count_of (sym (tells.1 q) ∙ is) in
     omega (arith, one)
 
-pub ok_take : {T E Q : Type 0} (built told : Result T E) (x : T) → built ≡ told → built ≡ Ok x → OnOk told Q → Q
-ok_take {T = T} {E = E} {Q = Q} built told x same is holds = subst (λ (r : Result T E). OnOk r Q) (sym same ∙ is) holds
+-- the rules were asked of a group, once the ring of its class was found bare and a meta was found for it
+pub record WasAsked {M P : Type 0} (start : Start) (runs : M → List mapper.Run) (gives : P → Ask → ℕ → Type 0) (class : ℕ) (s inside : State M P)
+    (meta : ℕ) (w : View) (stock : Stock) (m : M) (ask : Ask) (count : ℕ) : Type 0 where
+  pub only : OnlyRing class s inside
+  pub none : FindsNoSlot class s inside
+  pub finds : FindsMeta start inside.seat (runs inside.mapper) inside.stock meta w (runs m) stock
+  pub asks : IsAsk inside.usage inside.bounces class ask
+  pub answer : gives inside.rules ask count
+  pub allowed : IsCount ask.class count
 
-pub err_take : {T E Q : Type 0} (built told : Result T E) (e : E) → built ≡ told → built ≡ Err e → OnErr told Q → Q
-err_take {T = T} {E = E} {Q = Q} built told e same is holds = subst (λ (r : Result T E). OnErr r Q) (sym same ∙ is) holds
-
-pub ok_absurd : {T E Q : Type 0} (built : Result T E) (x : T) (e : E) → built ≡ Ok x → built ≡ Err e → Q
-ok_absurd {T = T} {E = E} built x e ok err = absurd (err_take {Q = ⊥} built (Ok x) e ok err tt)
-
-module _ {M P : Type 0} (start : Start) (runs : M → List mapper.Run) (gives : P → Ask → ℕ → Type 0) (class bytes : ℕ)
-    (s inside found : State M P) (same : inside ≡ found) (only : OnlyRing class s found) (none : FindsNoSlot class s found)
-    (meta : ℕ) (w : View) (stock : Stock) (m : M) (finds : FindsMeta start inside.seat (runs inside.mapper) inside.stock meta w (runs m) stock)
-    (ask : Ask) (asks : IsAsk inside.usage inside.bounces class ask) (count : ℕ) (answer : gives inside.rules ask count) (allowed : IsCount ask.class count) where
+module _ {M P : Type 0} {start : Start} {runs : M → List mapper.Run} {gives : P → Ask → ℕ → Type 0} {class : ℕ} {s inside : State M P}
+    {meta : ℕ} {w : View} {stock : Stock} {m : M} {ask : Ask} {count : ℕ} (was : WasAsked start runs gives class s inside meta w stock m ask count) (bytes : ℕ) where
   abbrev mid : State M P
   mid = record inside { seat = w; stock = stock; mapper = m }
 
@@ -50,23 +51,20 @@ module _ {M P : Type 0} (start : Start) (runs : M → List mapper.Run) (gives : 
   abbrev counts : Ask → ℕ → Type 0
   counts = gives s.rules
 
-  only_in : OnlyRing class s inside
-  only_in = only_inside class s inside found same only
-
   sought : Seeks class s mid
-  sought = found_seeks class s inside only_in start (runs inside.mapper) (runs m) meta w stock m finds (none_inside class s inside found same none)
+  sought = found_seeks class s inside was.only start (runs inside.mapper) (runs m) meta w stock m was.finds was.none
 
   took : TakesFree s mid ⊎ TakesArea s mid
-  took = takes class s inside only_in start (runs inside.mapper) (runs m) meta w stock m finds
+  took = takes class s inside was.only start (runs inside.mapper) (runs m) meta w stock m was.finds
 
   same_rules : inside.rules ≡ s.rules
-  same_rules = ap (λ (x : State M P). x.rules) only_in.state
+  same_rules = ap (λ (x : State M P). x.rules) was.only.state
 
   asked : IsAsked counts s want
   asked = asked_moved counts s mid want sought.usage sought.bounces (record {
-    ask_is = asks;
-    count_is = subst (λ (p : P). gives p ask count) same_rules answer;
-    allowed = subst (λ k. IsCount k count) asks.class_is allowed;
+    ask_is = was.asks;
+    count_is = subst (λ (p : P). gives p ask count) same_rules was.answer;
+    allowed = subst (λ k. IsCount k count) was.asks.class_is was.allowed;
   })
 
   -- ---- with a run of its own
@@ -74,14 +72,7 @@ module _ {M P : Type 0} (start : Start) (runs : M → List mapper.Run) (gives : 
     pub mapped_builds : (after : State M P) → GoesOn w after.seat → HasBuilt meta ask.class (shape_of ask bytes count).count mid after
         → ((base : ℕ) × (after.seat.desk.layout.runs ≡ plain_run base (shape_of ask bytes count).pages ∷ w.desk.layout.runs)) → BuildsWanted counts s after class bytes
     mapped_builds after on built run = builds_run counts s mid class bytes sought took want refl refl asked large after run.0 meta (shape_of ask bytes count).count on.came refl
-        (subst (λ k. HasBuilt meta k (shape_of ask bytes count).count mid after) asks.class_is built) run.1
-
-    module _ (inner after : State M P) (on : GoesOn w inner.seat) (left : LeavesAll mid inner) (seat : after.seat ≡ inner.seat) (rings : after.rings ≡ inner.rings) (usage : after.usage ≡ inner.usage) where
-      pub mapped_cause : (pages : ℕ) → pages ≡ (shape_of ask bytes count).pages → RefusedWanted counts s after class bytes pages
-      mapped_cause pages is = run_cause counts s mid class bytes sought took want refl refl asked large after inner left on.came seat rings usage pages is
-
-      pub mapped_leaves : LeavesHeap s after
-      mapped_leaves = run_leaves counts s mid class bytes sought took want refl refl asked large after inner left on.came seat rings usage
+        (subst (λ k. HasBuilt meta k (shape_of ask bytes count).count mid after) was.asks.class_is built) run.1
 
   -- ---- in a slot of another group
   module _ (small : IsNestedSize class count) (next size : ℕ) (size_is : size ≡ 16 * units_of class * count + 12) (least : IsLeastClass size next) where
@@ -94,16 +85,60 @@ module _ {M P : Type 0} (start : Start) (runs : M → List mapper.Run) (gives : 
         (subst (λ n. BuildsWanted counts mid inner next n) size_is (subst (λ (p : P). BuildsWanted (gives p) mid inner next size) same_rules inner_builds))
         on.came built same_runs
 
-    module _ (inner after : State M P) (seat : after.seat ≡ inner.seat) (rings : after.rings ≡ inner.rings) (usage : after.usage ≡ inner.usage) where
-      inner_cause : (pages : ℕ) → RefusedWanted (gives inside.rules) mid inner next size pages → RefusedWanted counts mid inner next (carried_bytes want) pages
-      inner_cause pages cause = subst (λ n. RefusedWanted counts mid inner next n pages) size_is (subst (λ (p : P). RefusedWanted (gives p) mid inner next size pages) same_rules cause)
+  -- ---- a map call was refused, and the meta went to the stock
+  module _ (inner : State M P) {e : State M P} (same : e ≡ inner) (put : Stock) where
+    seat : e.seat ≡ inner.seat
+    seat = ap (λ (x : State M P). x.seat) same
 
-      pub nested_cause : (pages was : ℕ) → pages ≡ was → RefusedWanted (gives inside.rules) mid inner next size was → RefusedWanted counts s after class bytes pages
-      nested_cause pages was is cause = slot_cause counts s mid class bytes sought took want refl refl next carried inner after seat rings usage pages
-          (subst (λ n. RefusedWanted counts mid inner next (carried_bytes want) n) (sym is) (inner_cause was cause))
+    rings : e.rings ≡ inner.rings
+    rings = ap (λ (x : State M P). x.rings) same
+
+    usage : e.usage ≡ inner.usage
+    usage = ap (λ (x : State M P). x.usage) same
+
+    -- for the run of the group
+    module _ (large : ¬ IsNestedSize class count) (on : GoesOn w inner.seat) (left : LeavesAll mid inner) where
+      pub mapped_cause : (refused : M → Refusals) → (refused inner.mapper).last ≡ (shape_of ask bytes count).pages
+          → RefusedWanted counts s (record e { stock = put }) class bytes (refused e.mapper).last
+      mapped_cause refused is = run_cause counts s mid class bytes sought took want refl refl asked large (record e { stock = put }) inner left on.came seat rings usage
+          (refused e.mapper).last
+          (ap (λ (x : State M P). (refused x.mapper).last) same ∙ is)
+
+      pub mapped_leaves : LeavesHeap s (record e { stock = put })
+      mapped_leaves = run_leaves counts s mid class bytes sought took want refl refl asked large (record e { stock = put }) inner left on.came seat rings usage
+
+    -- in the call for the slot
+    module _ (small : IsNestedSize class count) (next size : ℕ) (size_is : size ≡ 16 * units_of class * count + 12) (least : IsLeastClass size next) where
+      inner_cause : (pages : ℕ) → RefusedWanted (gives inside.rules) mid inner next size pages → RefusedWanted counts mid inner next (carried_bytes want) pages
+      inner_cause pages cause =
+          subst (λ n. RefusedWanted counts mid inner next n pages) size_is
+          (subst (λ (p : P). RefusedWanted (gives p) mid inner next size pages) same_rules cause)
+
+      pub nested_cause : (refused : M → Refusals) → RefusedWanted (gives inside.rules) mid inner next size (refused inner.mapper).last
+          → RefusedWanted counts s (record e { stock = put }) class bytes (refused e.mapper).last
+      nested_cause refused cause = slot_cause counts s mid class bytes sought took want refl refl next
+          (carried small next size size_is least)
+          inner
+          (record e { stock = put })
+          seat
+          rings
+          usage
+          (refused e.mapper).last
+          (subst (λ n. RefusedWanted counts mid inner next (carried_bytes want) n) (sym (ap (λ (x : State M P). (refused x.mapper).last) same))
+          (inner_cause (refused inner.mapper).last cause))
 
       pub nested_leaves : (pages : ℕ) → RefusedWanted (gives inside.rules) mid inner next size pages → LeavesHeap mid inner → class < 48 → class < next
-          → LeavesBelow next (ledger_of mid) (ledger_of inner) → LeavesHeap s after
+          → LeavesBelow next (ledger_of mid) (ledger_of inner) → LeavesHeap s (record e { stock = put })
       nested_leaves pages cause leaves known above below =
           let told : RefusedWanted counts mid inner next (carried_bytes want) pages = inner_cause pages cause in
-          slot_leaves counts s mid class bytes sought took want refl refl next carried inner after seat rings usage leaves (told.came.words, told.one_area) known (below.rings class above)
+          slot_leaves counts s mid class bytes sought took want refl refl next
+          (carried small next size size_is least)
+          inner
+          (record e { stock = put })
+          seat
+          rings
+          usage
+          leaves
+          (told.came.words, told.one_area)
+          known
+          (below.rings class above)

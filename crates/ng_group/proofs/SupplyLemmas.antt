@@ -1,7 +1,6 @@
 -- What a search for a free meta leaves.
 use Rattle.std.proofs.Common.{◌≡◌, ◌⊎◌, ℕ, ◌+◌, ◌*◌, ◌<◌, ◌≤◌, List, [], ◌∷◌, Contains, Some, refl, sym, ap, ◌∙◌, subst, ⊎_elim, inl, inr, arith}
 use Rattle.std.specs.List.{slice_get}
-use Rattle.ng_lock_moves.specs.Notes.{excuse_of_call}
 use Rattle.ng_mapper.specs.Mapping.{Span}
 use Rattle.ng_mapper.specs.Runs as mapper
 use Rattle.ng_mapper.specs.declared.refusals.Refusals.{Refusals}
@@ -16,7 +15,7 @@ use Rattle.ng_ledger.specs.Carriers.{AreCarried, AreNested}
 use Rattle.ng_ledger.specs.Groups.{AreGroups}
 use Rattle.ng_ledger.specs.Rings.{AreRinged, IsBare}
 use Rattle.ng_ledger.specs.Runs.{AreFounded}
-use Rattle.ng_ledger.specs.Standing.{KeepsHand, Ledger}
+use Rattle.ng_ledger.specs.Standing.{Ledger}
 use Rattle.ng_ledger.specs.Usage.{AreUsed}
 use Rattle.ng_ledger.proofs.AreaLemmas.{IsOfArea}
 use Rattle.ng_ledger.proofs.ElementLemmas.{contains_get}
@@ -170,15 +169,3 @@ module _ (v w : View) (before now : Refusals) (pages number : ℕ) (refuses : Re
     came = record { words = (0, refuses.note.found) ∷ []; readings = ap (λ (x : View). x.readings) refuses.note.view };
     next = ap (λ (x : View). x.desk.next) refuses.note.view;
   }
-
-  pub refused_excuse : w.excuses ≡ excuse_of_call number ∷ v.excuses
-  refused_excuse = ap (λ (x : View). x.excuses) refuses.note.view
-
--- nothing in hand changes
-pub refused_hand : (l : Ledger) (w : View) (before now : Refusals) (pages number : ℕ)
-    → RefusesRun l.seat before now pages number w → KeepsHand l (record l { seat = w })
-refused_hand l w before now pages number refuses = subst (λ (x : View). KeepsHand l (record l { seat = x })) (sym refuses.note.view) (record {
-  none_more = λ m hand. hand;
-  none_less = λ m hand. hand;
-  blank = λ m hand blank. blank;
-})

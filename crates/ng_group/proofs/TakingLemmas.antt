@@ -1,11 +1,10 @@
 -- What stands of the books while a slot is returned to a group, whose masks are read first.
-use Rattle.std.proofs.Common.{◌≡◌, ◌≢◌, ◌⊎◌, ℕ, ◌+◌, ◌<◌, ◌≤◌, Bool, false, List, refl, sym, subst, ◌∙◌, ⊎_elim, inl, inr, arith}
+use Rattle.std.proofs.Common.{◌≡◌, ◌≢◌, ◌⊎◌, ℕ, ◌+◌, ◌<◌, ◌≤◌, Bool, false, List, refl, sym, subst, ⊎_elim, inl, inr, arith}
 use Rattle.std.proofs.lemmas.Bool.{cases_eq, cases_lt}
 use Rattle.ng_mapper.specs.Mapping.{Span}
 use Rattle.ng_mapper.specs.Runs as mapper
 use Rattle.ng_mapper.specs.declared.refusals.Refusals.{Refusals}
 use Rattle.ng_class.specs.Mask.{FillsGroup}
-use Rattle.ng_meta.specs.Place.{IsMetaPlace}
 use Rattle.ng_policy.specs.declared.ask.Spare.{Spare}
 use Rattle.ng_lists.specs.Rings.{IsListed}
 use Rattle.ng_view.specs.Layouts.{IsKind}
@@ -14,7 +13,6 @@ use Rattle.ng_view.specs.Slots.{IsPlain}
 use Rattle.ng_view.specs.declared.view.Group.{Group}
 use Rattle.ng_view.specs.declared.view.Start.{Start}
 use Rattle.ng_view.specs.declared.view.View.{View}
-use Rattle.ng_lock_moves.specs.Fetches.{HasGroup}
 use Rattle.ng_lock_moves.specs.Masks.{IsServing}
 use Rattle.ng_mask.specs.Fetches.{OfGroup}
 use Rattle.ng_serve.specs.Groups.{Describes}
@@ -23,7 +21,7 @@ use Rattle.ng_serve.specs.declared.group.LiveGroup.{LiveGroup}
 use Rattle.ng_ledger.specs.Rings.{AreRinged}
 use Rattle.ng_ledger.proofs.RingLemmas.{grow}
 use Rattle.ng_group.specs.Filling.{AreSlots, LooksAt, Searches}
-use Rattle.ng_group.specs.Returning.{CapturesAll, HasReturned, IsKept, IsSpare, MayGo, TakesWhole}
+use Rattle.ng_group.specs.Returning.{CapturesAll, HasReturned, IsKept, IsSpare, MayGo, ReadsFreed, TakesWhole}
 use Rattle.ng_group.specs.Serving.{OnlyRing}
 use Rattle.ng_group.specs.States.{State, Working, ledger_of}
 use Rattle.ng_group.proofs.FillingLemmas.{fills_some}
@@ -84,12 +82,6 @@ module _ {M P : Type 0} (start : Start) (span : M → Span) (runs : M → List m
   of : OfGroup s.seat meta (Describes found)
   of = subst (λ (x : State M P). OfGroup x.seat meta (Describes found)) (sym same) now_of
 
-  pub own_place : IsMetaPlace meta start.pages
-  own_place = subst (λ m. IsMetaPlace m start.pages) has.of_meta (works.stands.groups.each has.group has.there).place
-
-  pub own_group : HasGroup s.seat meta
-  own_group = record { group = has.group; there = has.there; of_meta = has.of_meta }
-
   pub own_few : found.last < 32
   own_few = omega (arith, (works.stands.groups.each has.group has.there).few, (of has.group has.there has.of_meta).last)
 
@@ -117,22 +109,6 @@ module _ {M P : Type 0} (start : Start) (span : M → Span) (runs : M → List m
 
     there_read : Among has.group w.desk.groups
     there_read = subst (Among has.group) (sym (groups_kept s.seat w looks.searches)) has.there
-
-    pub read_live : HasGroup w meta
-    read_live = record { group = has.group; there = there_read; of_meta = has.of_meta }
-
-    pub read_slot : HasReturned w meta index
-    read_slot = record {
-      group = has.group;
-      there = there_read;
-      of_meta = has.of_meta;
-      within = has.within;
-      slot = has.slot;
-      held = looks.held ∙ has.held;
-      of_group = has.of_group;
-      of_index = has.of_index;
-      bare = has.bare;
-    }
 
     pub read_avail : AreSlots avail found.last
     read_avail = subst (AreSlots avail) (of has.group has.there has.of_meta).last (looks.avail_slots has.group has.there has.of_meta)
@@ -182,14 +158,14 @@ module _ {M P : Type 0} (start : Start) (span : M → Span) (runs : M → List m
     pub back_only : (after : State M P) → OnlyRing found.class mid after → OnlyRing found.class now after
     back_only after only = only_then found.class now mid after (read_only found.class) only
 
-    pub back_takes : (keeps : P → Spare → Bool → Type 0) (x : View)
+    pub back_takes : (keeps : P → Spare → Bool → Type 0) (x : View) → ReadsFreed w meta x
         → (¬ FillsGroup avail freed index found.last) ⊎ IsKept (keeps s.rules) mid meta found → TakesWhole (keeps now.rules) now meta index found false x
-    back_takes keeps x stays = subst (λ (y : State M P). TakesWhole (keeps y.rules) y meta index found false x) same (record {
+    back_takes keeps x freed_read stays = subst (λ (y : State M P). TakesWhole (keeps y.rules) y meta index found false x) same (record {
       freed = freed;
       avail = avail;
       between = w;
       reads = looks.reads;
-      ends = inr (refl, stays_same (¬ FillsGroup avail freed index found.last) (keeps s.rules) s w meta found stays);
+      ends = inr (refl, freed_read, stays_same (¬ FillsGroup avail freed index found.last) (keeps s.rules) s w meta found stays);
     })
 
     -- ---- or all slots are in the seat

@@ -80,13 +80,6 @@ goes_then v u w first second = record {
 }
 
 -- ---- the classes below one
-pub below_same : (class : ℕ) (l : Ledger) → LeavesBelow class l l
-below_same class l = record {
-  rings = λ k below. refl;
-  usage = λ k below. refl;
-  bare = λ k m below in' noted. noted;
-}
-
 pub below_then : (class : ℕ) (before mid after : Ledger)
     → LeavesBelow class before mid → LeavesBelow class mid after → LeavesBelow class before after
 below_then class before mid after first second = record {
@@ -99,15 +92,6 @@ below_then class before mid after first second = record {
     moved k m below in' = subst (λ (ring : List ℕ). Contains ring m) (sym (first.rings k below)) in'
 
 -- ---- the ring of a class alone
-pub only_same : {M P : Type 0} (class : ℕ) (s : State M P) → OnlyRing class s s
-only_same class s = record {
-  state = refl;
-  view = refl;
-  came = came_same s.seat;
-  rings = λ k apart. refl;
-  bare = λ k m known apart in' noted. noted;
-}
-
 pub only_then : {M P : Type 0} (class : ℕ) (before mid after : State M P)
     → OnlyRing class before mid → OnlyRing class mid after → OnlyRing class before after
 only_then {M} {P} class before mid after first second = record {

@@ -3,6 +3,7 @@ use Rattle.std.specs.Prelude.{◌≡◌, ◌≢◌, ◌⊎◌, ℕ, ◌+◌, ◌
 use Rattle.ng_lists.specs.Rings.{ring_of}
 use Rattle.ng_class.specs.Class.{IsLeastClass}
 use Rattle.ng_policy.specs.Coarse.{GoesUp}
+use Rattle.ng_serve.specs.Reads.{Notes}
 use Rattle.ng_view.specs.Lists.{Among}
 use Rattle.ng_group.specs.Steps.{Came}
 use Rattle.ng_group.specs.States.{State}
@@ -28,3 +29,8 @@ pub record IsClassFor {M P : Type 0} (before after : State M P) (bytes class : �
       → IsReady came.words (ring_of before.rings (least + 1)) ready
   pub up : (class ≡ least + 1) ↔ GoesUp least has_group (slice_index before.usage least) (slice_index before.usage (least + 1)) ready
   pub stays : class ≢ least + 1 → class ≡ least
+
+-- words were read, and else the core is as before: of its seat only what it read and noted of masks has changed
+pub record IsLooked {M P : Type 0} (before looked : State M P) : Type 0 where
+  pub state : looked ≡ record before { seat = looked.seat }
+  pub notes : Notes before.seat looked.seat

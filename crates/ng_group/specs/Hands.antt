@@ -1,5 +1,5 @@
 -- What a hand comes to have by a call of the core.
-use Rattle.std.specs.Prelude.{◌≡◌, ℕ, ◌+◌, ◌≤◌, List, [], ◌∷◌, Some}
+use Rattle.std.specs.Prelude.{◌≡◌, ◌≢◌, ◌⊎◌, ℕ, ◌+◌, ◌≤◌, List, [], ◌∷◌, Some}
 use Rattle.ng_lock_moves.specs.Notes.{excuse_of_call}
 use Rattle.ng_view.specs.Blocks.{Knows}
 use Rattle.ng_view.specs.Steps.{popped, with_excuse}
@@ -39,12 +39,12 @@ pub record GainsSlot (meta index : ℕ) (v w : View) : Type 0 where
 pub record GainsExcuse (number : ℕ) (v w : View) : Type 0 where
   pub learns : Learns (with_excuse v (Some (excuse_of_call number))) w
 
--- a slot went, and words were read
-pub record LosesSlot (meta index : ℕ) (v w : View) : Type 0 where
-  pub view : w ≡ record v { held = w.held }
-
 -- the hand has the slot, of a group of the class, with room for so many bytes and 4
 pub record IsSlotFor (class bytes : ℕ) (hand : Caller) (token : Token) : Type 0 where
   pub has : HasSlot hand token
   pub of_class : has.held.place.group.tag ≡ class + 1
   pub roomy : bytes + 4 ≤ token.room
+
+-- the tokens are of different slots
+abbrev pub IsApart : Token → Token → Type 0
+IsApart token other = (token.meta ≢ other.meta) ⊎ (token.index ≢ other.index)

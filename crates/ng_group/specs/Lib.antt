@@ -4,8 +4,10 @@ pub mod Serving
 pub mod Building
 pub mod Returning
 pub mod Hands
+pub mod Lone
 pub mod Opening
 pub mod ClassFor
 pub mod Asking
 pub mod Filling
 pub mod Ending
+pub mod Tests

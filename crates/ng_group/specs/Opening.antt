@@ -1,11 +1,12 @@
 -- How a core begins, and what it hands back.
-use Rattle.std.specs.Prelude.{◌≡◌, ℕ, List, [], replicate}
+use Rattle.std.specs.Prelude.{◌≡◌, ℕ, ◌≤◌, true, List, [], replicate}
 use Rattle.ng_mapper.specs.Mapping.{Span}
 use Rattle.ng_mapper.specs.Runs as mapper
 use Rattle.ng_mapper.specs.declared.refusals.Refusals.{Refusals}
 use Rattle.ng_shelf.specs.Parents.{ParentTable}
 use Rattle.ng_shelf.specs.Stock.{Stock, free_of}
 use Rattle.ng_lists.specs.Rings.{RingTable}
+use Rattle.ng_ledger.specs.Runs.{AreMapped}
 use Rattle.ng_space.specs.Callers.{opened}
 use Rattle.ng_view.specs.declared.view.Start.{Start}
 use Rattle.ng_view.specs.declared.view.View.{View}
@@ -37,3 +38,13 @@ pub record AreEmpty (pages : ℕ) (tables : Empty) : Type 0 where
   pub ring_pages : tables.rings.pages ≡ pages
   pub stock_pages : tables.stock.pages ≡ pages
   pub parent_pages : tables.parents.pages ≡ pages
+
+-- what a core hands back: the noted runs are the mapper's live ones, no number above the mapper's refusals was noted, and the
+-- seat leads and has no slot in motion, no excuse and no book
+pub record IsHandedBack (v : View) (live : List mapper.Run) (refused : Refusals) : Type 0 where
+  pub mapped : AreMapped v.desk.layout.runs live
+  pub counted : v.desk.refusals ≤ refused.count
+  pub leads : v.leads ≡ true
+  pub still : v.held ≡ []
+  pub answered : v.excuses ≡ []
+  pub bookless : v.books ≡ []

@@ -1,5 +1,5 @@
 // New groups, on runs of their own and in slots of others.
-ghost use Rattle.std.specs.Prelude.{◌≡◌, ℕ, ◌+◌, ◌*◌, ◌<◌, ◌≤◌, ◌^◌, ◌∷◌, [], IfErr, OnErr, OnOk, slice_index};
+ghost use Rattle.std.specs.Prelude.{◌≡◌, ℕ, ◌+◌, ◌*◌, ◌<◌, ◌≤◌, ◌^◌, ◌∷◌, [], IfErr, OnErr, OnOk, max, slice_index};
 ghost use Rattle.ng_class.specs.Class.{IsLeastClass, units_of};
 ghost use Rattle.ng_meta.specs.Place.{IsMetaPlace};
 ghost use Rattle.ng_policy.specs.Ask.{AskInRange, IsCount};
@@ -58,6 +58,7 @@ impl<N: Name, M: Mapper, P: Rules> Works<N, M, P> {
         ensures run { OnOk result ((base : ℕ) × (self.new.seat.desk.layout.runs
             ≡ plain_run base (shape_of ask.now bytes count).pages ∷ self.old.seat.desk.layout.runs)) }
         ensures asked { OnErr result ((M.refused self.new.mapper).last ≡ (shape_of ask.now bytes count).pages) }
+        ensures most { OnErr result ((M.refused self.new.mapper).most ≡ max (M.refused self.old.mapper).most (shape_of ask.now bytes count).pages) }
         ensures left { OnErr result (LeavesAll self.old self.new) }
         ensures stock { self.new.stock ≡ self.old.stock }
         ensures rules { self.new.rules ≡ self.old.rules }

@@ -1,8 +1,9 @@
 // The class that serves a request.
 ghost use Rattle.std.specs.Prelude.{◌≡◌, ◌<◌};
-ghost use Rattle.ng_group.specs.ClassFor.{IsClassFor, IsReady};
+ghost use Rattle.ng_group.specs.ClassFor.{IsClassFor, IsLooked, IsReady};
 ghost use Rattle.ng_group.specs.Steps.{Came};
 ghost use Rattle.ng_lists.specs.Rings.{ring_of};
+ghost use Rattle.ng_serve.specs.Reads.{Notes};
 
 use crate::heap_core::Core;
 use ng_class::class_of;
@@ -26,9 +27,7 @@ impl<N: Name, M: Mapper, P: Rules> Core<N, M, P> {
         requires bytes { bytes < 131052 }
         ensures class { IsClassFor self.old self.new bytes result }
         ensures known { result < 48 }
-        ensures mapper { self.new.mapper ≡ self.old.mapper }
-        ensures rules { self.new.rules ≡ self.old.rules }
-        ensures next { self.new.seat.desk.next ≡ self.old.seat.desk.next }
+        ensures looked { IsLooked self.old self.new }
     {
         let class = class_of(bytes).unwrap();
         let next = class + 1;
@@ -51,7 +50,7 @@ impl<N: Name, M: Mapper, P: Rules> Core<N, M, P> {
         ensures ready { (c : Came self.old.seat self.new.seat) → IsReady c.words (ring_of self.old.rings class) result }
         ensures came { Came self.old.seat self.new.seat }
         ensures same { self.new ≡ record self.old { seat = self.new.seat } }
-        ensures next { self.new.seat.desk.next ≡ self.old.seat.desk.next }
+        ensures notes { Notes self.old.seat self.new.seat }
     {
         let Some(first) = self.works.rings.first(class) else {
             return false;

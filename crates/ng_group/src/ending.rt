@@ -1,5 +1,5 @@
 // Groups that end.
-ghost use Rattle.std.specs.Prelude.{◌≡◌, ◌+◌, ◌<◌, ◌≤◌, [], Contains, IfNone, IfSome};
+ghost use Rattle.std.specs.Prelude.{◌≡◌, ◌+◌, ◌<◌, [], Contains, IfNone, IfSome};
 ghost use Rattle.ng_lists.specs.Rings.{IsListed, ring_of};
 ghost use Rattle.ng_mask.specs.Fetches.{OfGroup};
 ghost use Rattle.ng_serve.specs.Groups.{Describes};
@@ -7,7 +7,7 @@ ghost use Rattle.ng_ledger.specs.Rings.{left};
 ghost use Rattle.ng_ledger.specs.Usage.{AreUsed};
 ghost use Rattle.ng_view.specs.LockSteps.{groups_but};
 ghost use Rattle.ng_group.specs.Ending.{EndsGroup};
-ghost use Rattle.ng_group.specs.Returning.{ComesInHand, HasReturned, HasWhole, IsAbove};
+ghost use Rattle.ng_group.specs.Returning.{AreFewer, ComesInHand, HasReturned, HasWhole, IsAbove};
 ghost use Rattle.ng_group.specs.Serving.{OnlyRing};
 ghost use Rattle.ng_group.specs.States.{Working, ledger_of};
 ghost use Rattle.ng_group.specs.Steps.{GoesOn, IsCalm};
@@ -36,6 +36,7 @@ impl<N: Name, M: Mapper, P: Rules> Works<N, M, P> {
         ensures on { GoesOn self.old.seat self.new.seat }
         ensures hand { ComesInHand meta (ledger_of self.old) (ledger_of self.new) }
         ensures calm { IsCalm self.old.seat self.new.seat (M.refused self.old.mapper) (M.refused self.new.mapper) }
+        ensures fewer { AreFewer self.old.seat self.new.seat }
         ensures rules { self.new.rules ≡ self.old.rules }
         ensures slot { IfSome result (λ slot. HasReturned self.new.seat slot.0 slot.1) }
         ensures above { IfSome result (λ slot. IsAbove group.now.class self.new.seat slot.0) }

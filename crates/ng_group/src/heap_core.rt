@@ -1,12 +1,17 @@
-ghost use Rattle.std.specs.Prelude.{◌≡◌, ◌+◌, ◌*◌, ◌<◌, ◌≤◌, [], IfErr, IfOk, OnErr, OnOk, slice_get, sum_by};
+ghost use Rattle.std.specs.Prelude.{◌≡◌, ◌+◌, ◌*◌, ◌<◌, ◌≤◌, IfErr, IfOk, OnErr, OnOk, max, slice_get, sum_by};
 ghost use Rattle.ng_class.specs.Class.{units_of};
 ghost use Rattle.ng_lists.specs.Rings.{ring_of};
-ghost use Rattle.ng_space.specs.Tokens.{HasSlot};
+ghost use Rattle.ng_space.specs.Blocks.{BlockToken, HasBlock};
+ghost use Rattle.ng_space.specs.Tokens.{HasSlot, Token};
 ghost use Rattle.ng_space.specs.Passed.{HasExcuse};
 ghost use Rattle.ng_view.specs.Conditions.{IsBlanked, IsSettled};
-ghost use Rattle.ng_group.specs.Hands.{GainsExcuse, GainsSlot, IsSlotFor};
-ghost use Rattle.ng_group.specs.Opening.{AreEmpty, IsFreshMapper, IsFreshSeat};
-ghost use Rattle.ng_group.specs.Steps.{GoesOn, IsCalm};
+ghost use Rattle.ng_group.specs.Asking.{BuildsWanted, LeavesHeap, RefusedWanted};
+ghost use Rattle.ng_group.specs.Hands.{GainsExcuse, GainsSlot, IsApart, IsSlotFor};
+ghost use Rattle.ng_group.specs.Lone.{BuildsLone, IsLoneRefused};
+ghost use Rattle.ng_group.specs.Opening.{AreEmpty, IsFreshMapper, IsFreshSeat, IsHandedBack};
+ghost use Rattle.ng_group.specs.Returning.{ReturnsOfHand};
+ghost use Rattle.ng_group.specs.Steps.{GoesOn};
+ghost use Rattle.ng_terms.specs.Accounts.{pages_for};
 ghost use Rattle.ng_terms.specs.Causes.{Rose};
 ghost use Rattle.ng_view.specs.Steps.{pushed};
 
@@ -15,7 +20,7 @@ use crate::works::Works;
 use ng_mapper::Mapper;
 use ng_mask::{Pop, pop};
 use ng_policy::{Bounce, Kept, Rules};
-use ng_serve::group_of;
+use ng_serve::group_of_slot;
 use ng_space::{Excuse, Hand, LockSeat, Name, Slot, Space};
 use std::marker::Model;
 
@@ -99,6 +104,105 @@ impl<N: Name, M: Mapper, P: Rules> Core<N, M, P> {
         self.works.mapper.live_pages()
     }
 
+    /// Gets a slot of a class for a hand, with room for `bytes` and 4: of the first group in the ring of the class, or of
+    /// another there, or of a new one. The excuse of a refused map call comes instead.
+    pub fn alloc_slot(
+        &mut self,
+        space: &Space<N>,
+        hand: &mut Hand<N>,
+        class: u32,
+        bytes: u64,
+    ) -> Result<Slot<N>, Excuse<N>>
+        requires class { class < 48 }
+        requires bytes { bytes + 4 ≤ 16 * units_of class }
+        ensures slot { IfOk result (IsSlotFor class bytes hand.new) }
+        ensures gains { IfOk result (λ slot. GainsSlot slot.meta slot.index hand.old.view hand.new.view) }
+        ensures apart { IfOk result (λ slot. (token : Token) → HasSlot hand.old token → IsApart token slot) }
+        ensures others { (token : Token) → HasSlot hand.old token → HasSlot hand.new token }
+        ensures blocks { (block : BlockToken) → HasBlock hand.old block → HasBlock hand.new block }
+        ensures calm { OnOk result (M.refused self.new.mapper ≡ M.refused self.old.mapper) }
+        ensures excuse { IfErr result (HasExcuse hand.new) }
+        ensures excused { IfErr result (λ excuse. GainsExcuse excuse.number hand.old.view hand.new.view) }
+        ensures number_is { IfErr result (λ excuse. excuse.number ≡ (M.refused self.new.mapper).count) }
+        ensures rose { OnErr result (Rose (M.refused self.old.mapper).count (M.refused self.new.mapper).count) }
+        ensures builds { OnOk result (BuildsWanted (P.count_gives self.old.rules) self.old self.new class bytes) }
+        ensures cause { OnErr result (RefusedWanted (P.count_gives self.old.rules) self.old self.new class bytes (M.refused self.new.mapper).last) }
+        ensures leaves { OnErr result (LeavesHeap self.old self.new) }
+        ensures most { OnErr result ((M.refused self.new.mapper).most ≤ max (M.refused self.old.mapper).most 512) }
+        ensures on { GoesOn self.old.seat self.new.seat }
+        ensures rules { self.new.rules ≡ self.old.rules }
+        ensures number { hand.new.number ≡ hand.old.number }
+        ensures spare { hand.new.spare ≡ hand.old.spare }
+        ensures entries { hand.new.entries ≡ hand.old.entries }
+    {
+        if let Some(first) = self.works.rings.first(class) {
+            match pop(space, hand, first, class) {
+                Pop::Won(slot) => return Ok(slot),
+                Pop::Bare | Pop::Other { tag: _ } | Pop::Lost => {}
+            }
+        }
+        match self.works.seat_slot(space, class, bytes) {
+            Ok((meta, index)) => { Ok(space.slot_to_hand(&mut self.works.seat, hand, meta, index)) }
+            Err(number) => Err(space.excuse_to_hand(&mut self.works.seat, hand, number)),
+        }
+    }
+
+    /// Gets a slot that is a group by itself for a hand, for a block of so many bytes. The excuse of a refused map call
+    /// comes instead.
+    pub fn alloc_lone(
+        &mut self,
+        space: &Space<N>,
+        hand: &mut Hand<N>,
+        bytes: u64,
+    ) -> Result<Slot<N>, Excuse<N>>
+        requires large { 131052 ≤ bytes }
+        requires bytes { bytes < 9223372036854771711 }
+        ensures slot { IfOk result (IsSlotFor 63 bytes hand.new) }
+        ensures gains { IfOk result (λ slot. GainsSlot slot.meta slot.index hand.old.view hand.new.view) }
+        ensures apart { IfOk result (λ slot. (token : Token) → HasSlot hand.old token → IsApart token slot) }
+        ensures others { (token : Token) → HasSlot hand.old token → HasSlot hand.new token }
+        ensures blocks { (block : BlockToken) → HasBlock hand.old block → HasBlock hand.new block }
+        ensures calm { OnOk result (M.refused self.new.mapper ≡ M.refused self.old.mapper) }
+        ensures excuse { IfErr result (HasExcuse hand.new) }
+        ensures excused { IfErr result (λ excuse. GainsExcuse excuse.number hand.old.view hand.new.view) }
+        ensures number_is { IfErr result (λ excuse. excuse.number ≡ (M.refused self.new.mapper).count) }
+        ensures rose { OnErr result (Rose (M.refused self.old.mapper).count (M.refused self.new.mapper).count) }
+        ensures builds { IfOk result (λ slot. BuildsLone slot.meta self.old self.new bytes) }
+        ensures cause { OnErr result (IsLoneRefused self.old self.new bytes (M.refused self.new.mapper).last) }
+        ensures leaves { OnErr result (LeavesHeap self.old self.new) }
+        ensures most { OnErr result ((M.refused self.new.mapper).most ≤ max (M.refused self.old.mapper).most (pages_for bytes)) }
+        ensures on { GoesOn self.old.seat self.new.seat }
+        ensures rules { self.new.rules ≡ self.old.rules }
+        ensures number { hand.new.number ≡ hand.old.number }
+        ensures spare { hand.new.spare ≡ hand.old.spare }
+        ensures entries { hand.new.entries ≡ hand.old.entries }
+    {
+        match self.works.seat_lone(space, bytes) {
+            Ok(meta) => Ok(space.slot_to_hand(&mut self.works.seat, hand, meta, 0)),
+            Err(number) => Err(space.excuse_to_hand(&mut self.works.seat, hand, number)),
+        }
+    }
+
+    /// Takes a slot back from a hand. Its group is torn down where all of its slots are back then and it may go.
+    pub fn return_slot(&mut self, space: &Space<N>, hand: &mut Hand<N>, slot: Slot<N>)
+        requires slot { HasSlot hand.old slot }
+        ensures view { hand.new.view ≡ pushed hand.old.view slot.meta slot.index }
+        ensures others { (token : Token) → HasSlot hand.old token → IsApart token slot → HasSlot hand.new token }
+        ensures blocks { (block : BlockToken) → HasBlock hand.old block → HasBlock hand.new block }
+        ensures calm { M.refused self.new.mapper ≡ M.refused self.old.mapper }
+        ensures returns { ReturnsOfHand (P.keep_gives self.old.rules) M.runs self.old self.new slot.meta slot.index }
+        ensures on { GoesOn self.old.seat self.new.seat }
+        ensures rules { self.new.rules ≡ self.old.rules }
+        ensures number { hand.new.number ≡ hand.old.number }
+        ensures spare { hand.new.spare ≡ hand.old.spare }
+        ensures entries { hand.new.entries ≡ hand.old.entries }
+    {
+        let (meta, index) = (slot.meta(), slot.index());
+        space.slot_to_seat(hand, &mut self.works.seat, slot);
+        let group = group_of_slot(space, &mut self.works.seat, meta);
+        self.works.seat_return(space, meta, index, &group);
+    }
+
     /// Ends the core: the seat and the mapper come back. Each noted run is an area or that of a live group, and the metas
     /// without a live group are known to be 0.
     pub fn close(self) -> (LockSeat<N>, M)
@@ -108,6 +212,7 @@ impl<N: Name, M: Mapper, P: Rules> Core<N, M, P> {
         ensures mapper { result.1 ≡ self.mapper }
         ensures settled { IsSettled self.seat }
         ensures blanked { IsBlanked self.seat }
+        ensures left { IsHandedBack self.seat (M.runs self.mapper) (M.refused self.mapper) }
     {
         let Core { works } = self;
         let Works {

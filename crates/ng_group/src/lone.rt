@@ -1,10 +1,12 @@
 // Groups that are one block by themselves.
-ghost use Rattle.std.specs.Prelude.{◌≡◌, ◌+◌, ◌<◌, ◌≤◌, [], IfErr, IfOk, OnErr, OnOk};
+ghost use Rattle.std.specs.Prelude.{◌≡◌, ◌<◌, ◌≤◌, [], IfErr, IfOk, OnErr, OnOk, max};
 ghost use Rattle.ng_ledger.specs.Standing.{KeepsHand};
 ghost use Rattle.ng_group.specs.Serving.{HasServed};
 ghost use Rattle.ng_group.specs.States.{Working, ledger_of};
 ghost use Rattle.ng_group.specs.Steps.{GoesOn, HandsOver, IsCalm, IsRefused};
-ghost use Rattle.ng_group.specs.Building.{HasInHand};
+ghost use Rattle.ng_group.specs.Asking.{LeavesHeap};
+ghost use Rattle.ng_group.specs.Building.{HasInHand, LeavesAll};
+ghost use Rattle.ng_group.specs.Lone.{BuildsAlone, BuildsLone, IsLoneRefused};
 ghost use Rattle.ng_terms.specs.Accounts.{pages_for};
 
 use crate::works::Works;
@@ -33,6 +35,10 @@ impl<N: Name, M: Mapper, P: Rules> Works<N, M, P> {
         ensures calm { OnOk result (IsCalm self.old.seat self.new.seat (M.refused self.old.mapper) (M.refused self.new.mapper)) }
         ensures refused { IfErr result (λ number. IsRefused number self.old.seat self.new.seat (M.refused self.old.mapper) (M.refused self.new.mapper)) }
         ensures idle { OnErr result (self.new.seat.held ≡ []) }
+        ensures builds { IfOk result (λ meta. BuildsLone meta self.old self.new bytes) }
+        ensures cause { OnErr result (IsLoneRefused self.old self.new bytes (M.refused self.new.mapper).last) }
+        ensures leaves { OnErr result (LeavesHeap self.old self.new) }
+        ensures most { OnErr result ((M.refused self.new.mapper).most ≤ max (M.refused self.old.mapper).most (pages_for bytes)) }
         ensures rules { self.new.rules ≡ self.old.rules }
     {
         let meta = find_meta(space, &mut self.seat, &mut self.mapper, &mut self.stock)?;
@@ -61,6 +67,10 @@ impl<N: Name, M: Mapper, P: Rules> Works<N, M, P> {
         ensures calm { OnOk result (IsCalm self.old.seat self.new.seat (M.refused self.old.mapper) (M.refused self.new.mapper)) }
         ensures refused { IfErr result (λ number. IsRefused number self.old.seat self.new.seat (M.refused self.old.mapper) (M.refused self.new.mapper)) }
         ensures idle { OnErr result (self.new.seat.held ≡ []) }
+        ensures built { OnOk result (BuildsAlone meta (pages_for bytes) self.old self.new) }
+        ensures asked { OnErr result ((M.refused self.new.mapper).last ≡ pages_for bytes) }
+        ensures most { OnErr result ((M.refused self.new.mapper).most ≡ max (M.refused self.old.mapper).most (pages_for bytes)) }
+        ensures left { OnErr result (LeavesAll self.old self.new) }
         ensures rules { self.new.rules ≡ self.old.rules }
     {
         self.bounce.step();

@@ -1,5 +1,5 @@
 // Slots returned under the lock.
-ghost use Rattle.std.specs.Prelude.{◌≡◌, ◌+◌, ◌*◌, ◌<◌, ◌≤◌, ◌↔◌, ◌⊎◌, [], IsTrue, true, false};
+ghost use Rattle.std.specs.Prelude.{◌≡◌, ◌+◌, ◌<◌, ◌≤◌, ◌↔◌, ◌⊎◌, [], IsTrue, true, false};
 ghost use Rattle.ng_class.specs.Mask.{FillsGroup};
 ghost use Rattle.ng_meta.specs.Place.{IsMetaPlace};
 ghost use Rattle.ng_policy.specs.Ask.{SpareInRange};
@@ -13,7 +13,7 @@ ghost use Rattle.ng_ledger.specs.Groups.{IsOfClass};
 ghost use Rattle.ng_ledger.specs.Standing.{KeepsHand};
 ghost use Rattle.ng_serve.specs.Takes.{IsServed};
 ghost use Rattle.ng_group.specs.Filling.{AreSlots, LooksAt, Searches};
-ghost use Rattle.ng_group.specs.Returning.{CapturesAll, HasReturned, HasWhole, IsKept, IsSpare, MayGo, TakesWhole};
+ghost use Rattle.ng_group.specs.Returning.{AreFewer, CapturesAll, HasReturned, HasWhole, IsKept, IsSpare, MayGo, ReadsFreed, Returns, TakesWhole};
 ghost use Rattle.ng_group.specs.Serving.{OnlyRing};
 ghost use Rattle.ng_group.specs.States.{Working, ledger_of};
 ghost use Rattle.ng_group.specs.Steps.{GoesOn, IsCalm};
@@ -33,6 +33,33 @@ const AVAIL: u64 = 24;
 const FREED: u64 = 28;
 
 impl<N: Name, M: Mapper, P: Rules> Works<N, M, P> {
+    /// Returns the slot in the seat to its group, whose numbers are given. The group is torn down where all of its slots
+    /// are back then and it may go, and so may be the one around it.
+    pub(crate) fn seat_return(&mut self, space: &Space<N>, meta: u64, index: u32, group: &LiveGroup)
+        requires working { Working N.start M.span M.runs M.refused self.old }
+        requires slot { HasReturned self.old.seat meta index }
+        requires group { OfGroup self.old.seat meta (Describes group.now) }
+        ensures working { Working N.start M.span M.runs M.refused self.new }
+        ensures on { GoesOn self.old.seat self.new.seat }
+        ensures hand { KeepsHand (ledger_of self.old) (ledger_of self.new) }
+        ensures calm { IsCalm self.old.seat self.new.seat (M.refused self.old.mapper) (M.refused self.new.mapper) }
+        ensures idle { self.new.seat.held ≡ [] }
+        ensures fewer { AreFewer self.old.seat self.new.seat }
+        ensures returns { Returns (P.keep_gives self.old.rules) M.runs self.old self.new meta index group.now }
+        ensures rules { self.new.rules ≡ self.old.rules }
+    {
+        if !self.take_whole(space, meta, index, group) {
+            return;
+        }
+        let Some((parent, place)) = self.end_group(space, meta, group) else {
+            self.stock.put(meta);
+            return;
+        };
+        let carrying = group_of(space, &mut self.seat, parent);
+        self.seat_return(space, parent, place, &carrying);
+        self.stock.put(meta);
+    }
+
     // Puts the slot in the seat back into its group; or, where the group has all of its slots then and may go, takes
     // them all into the seat, and answers so.
     fn take_whole(&mut self, space: &Space<N>, meta: u64, index: u32, group: &LiveGroup) -> bool
@@ -117,6 +144,7 @@ impl<N: Name, M: Mapper, P: Rules> Works<N, M, P> {
         ensures only { OnlyRing class self.old self.new }
         ensures bounces { self.new.bounces ≡ self.old.bounces }
         ensures idle { self.new.seat.held ≡ [] }
+        ensures reads { ReadsFreed self.old.seat meta self.new.seat }
     {
         self.enlist(space, meta, class);
         put_slot(space, &mut self.seat, meta, index);
@@ -133,6 +161,7 @@ impl<N: Name, M: Mapper, P: Rules> Works<N, M, P> {
         ensures bounces { self.new.bounces ≡ self.old.bounces }
         ensures listed { Among meta self.new.seat.desk.listed }
         ensures held { self.new.seat.held ≡ self.old.seat.held }
+        ensures reads { ReadsFreed self.old.seat meta self.new.seat }
     {
         self.rings.stand_once();
         if self.rings.has(meta) {

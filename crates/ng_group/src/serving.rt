@@ -1,5 +1,5 @@
 // Slots served out of rings, and where there are none, out of new groups.
-ghost use Rattle.std.specs.Prelude.{◌≡◌, ◌+◌, ◌*◌, ◌<◌, ◌≤◌, ◌∷◌, [], Contains, IfErr, IfNone, IfOk, IfSome, OnErr, OnOk, Some, slice_get};
+ghost use Rattle.std.specs.Prelude.{◌≡◌, ◌+◌, ◌*◌, ◌<◌, ◌≤◌, ◌∷◌, [], Contains, IfErr, IfNone, IfOk, IfSome, OnErr, OnOk, Some, max, slice_get};
 ghost use Rattle.ng_class.specs.Class.{IsLeastClass, units_of};
 ghost use Rattle.ng_policy.specs.Ask.{IsCount};
 ghost use Rattle.ng_shelf.specs.Shape.{IsNestedSize};
@@ -7,6 +7,7 @@ ghost use Rattle.ng_ledger.specs.Rings.{IsBare};
 ghost use Rattle.ng_ledger.specs.Standing.{KeepsHand};
 ghost use Rattle.ng_lists.specs.Rings.{ring_of};
 ghost use Rattle.ng_serve.specs.Choices.{IsChoice};
+ghost use Rattle.ng_group.specs.Asking.{BuildsWanted, LeavesHeap, RefusedWanted};
 ghost use Rattle.ng_group.specs.Serving.{FindsNoFreed, FindsNoSlot, HasServed, OnlyRing, StartsWalk};
 ghost use Rattle.ng_group.specs.States.{Working, ledger_of};
 ghost use Rattle.ng_group.specs.Steps.{GoesOn, IsCalm, IsRefused, LeavesBelow};
@@ -26,6 +27,60 @@ use ng_supply::find_meta;
 const CARRIED: u64 = 12;
 
 impl<N: Name, M: Mapper, P: Rules> Works<N, M, P> {
+    /// Gets a slot of a class with room for `bytes` and 4 into the seat, by its meta and index: of a group in the ring of
+    /// the class, or of a new one. The number of a refused map call comes instead, with its excuse in the seat.
+    pub(crate) fn seat_slot(
+        &mut self,
+        space: &Space<N>,
+        class: u32,
+        bytes: u64,
+    ) -> Result<(u64, u32), u64>
+        requires class { class < 48 }
+        requires bytes { bytes + 4 ≤ 16 * units_of class }
+        requires working { Working N.start M.span M.runs M.refused self.old }
+        requires idle { self.old.seat.held ≡ [] }
+        ensures working { Working N.start M.span M.runs M.refused self.new }
+        ensures on { GoesOn self.old.seat self.new.seat }
+        ensures hand { KeepsHand (ledger_of self.old) (ledger_of self.new) }
+        ensures below { LeavesBelow class (ledger_of self.old) (ledger_of self.new) }
+        ensures served { IfOk result (λ slot. HasServed class bytes self.new.seat slot.0 slot.1) }
+        ensures calm { OnOk result (IsCalm self.old.seat self.new.seat (M.refused self.old.mapper) (M.refused self.new.mapper)) }
+        ensures refused { IfErr result (λ number. IsRefused number self.old.seat self.new.seat (M.refused self.old.mapper) (M.refused self.new.mapper)) }
+        ensures idle { OnErr result (self.new.seat.held ≡ []) }
+        ensures builds { OnOk result (BuildsWanted (P.count_gives self.old.rules) self.old self.new class bytes) }
+        ensures cause { OnErr result (RefusedWanted (P.count_gives self.old.rules) self.old self.new class bytes (M.refused self.new.mapper).last) }
+        ensures leaves { OnErr result (LeavesHeap self.old self.new) }
+        ensures most { OnErr result ((M.refused self.new.mapper).most ≤ max (M.refused self.old.mapper).most 512) }
+        ensures rules { self.new.rules ≡ self.old.rules }
+    {
+        if let Some(slot) = self.serve_ring(space, class, bytes) {
+            return Ok(slot);
+        }
+        let meta = find_meta(space, &mut self.seat, &mut self.mapper, &mut self.stock)?;
+        let ask = self.ask(class);
+        let count = self.rules.count(ask);
+        if !is_nested_size(class, count) {
+            return match self.build_mapped(space, meta, &ask, bytes, count) {
+                Ok(()) => Ok((meta, 0)),
+                Err(number) => {
+                    self.stock.put(meta);
+                    Err(number)
+                }
+            };
+        }
+        let carried = slot_for_group(class, count);
+        match self.seat_slot(space, carried.class, carried.bytes) {
+            Ok(slot) => {
+                self.build_nested(space, meta, class, count, slot);
+                Ok((meta, 0))
+            }
+            Err(number) => {
+                self.stock.put(meta);
+                Err(number)
+            }
+        }
+    }
+
     // Takes a slot out of the ring of a class: one that is available in the first group, or a freed one of any. There is
     // none where all groups of the ring were read to be bare.
     fn serve_ring(&mut self, space: &Space<N>, class: u32, bytes: u64) -> Option<(u64, u32)>

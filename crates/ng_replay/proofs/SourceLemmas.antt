@@ -1,5 +1,5 @@
 -- Whose block an op takes, and where that stands.
-use Rattle.std.proofs.Common.{◌≡◌, ◌⊎◌, ℕ, ◌-◌, ◌<◌, ◌≤◌, Bool, true, false, eq-eqb, List, [], Option, Some, None, length, get_or, arith, refl, ap, sym, subst, inl, inr, ⊎_elim, ◌∙◌}
+use Rattle.std.proofs.Common.{◌≡◌, ◌⊎◌, ℕ, ◌<◌, ◌≤◌, Bool, true, false, eq-eqb, List, [], Option, Some, None, length, get_or, arith, refl, ap, sym, subst, inl, inr, ⊎_elim, ◌∙◌}
 use Rattle.std.specs.Prelude.{Contains}
 use Rattle.std.specs.Option.{option_and_then}
 use Rattle.std.proofs.lemmas.Bool.{cases_Bool, cases_lt, eqb-true}
@@ -14,15 +14,12 @@ use Rattle.ng_terms.specs.declared.plan.Plan.{Plan}
 use Rattle.ng_terms.specs.declared.reply.Reply.{Reply}
 use Rattle.ng_terms.specs.declared.reply.Reply.TheVariants.{Absent}
 use Rattle.ng_terms.specs.Calls.{done_ops, handed_as, is_handed_as, origin_of, source_of, standing, standing_of_number}
-use Rattle.ng_replay.specs.Serial.{IsServed, Takes, TakesFrom, reply_at, source_at, source_with, stands_at}
+use Rattle.ng_replay.specs.Serial.{IsServed, Takes, TakesFrom, reply_at, source_at, stands_at}
 use Rattle.ng_replay.proofs.FoundLemmas.{StandsAt, done_ops-Contains, done_ops-place, find-none, find-only}
 
 -- an op without a reply has no block
 pub stands_at-unserved : (replies : List (List Reply)) (place : Place) → ¬ IsServed replies place → stands_at replies place ≡ None
 stands_at-unserved replies place not_yet = ap standing (get_or_past (get_or replies place.log []) place.op Absent (omega arith))
-
-pub IsServed-standing : (replies : List (List Reply)) (place : Place) (at : ℕ) → stands_at replies place ≡ Some at → IsServed replies place
-IsServed-standing replies place at stands = ⊎_elim (λ served. served) (λ past. absurd (let none : stands_at replies place ≡ None = stands_at-unserved replies place (λ served. omega arith) in cc)) (cases_lt place.op (length (get_or replies place.log [])))
 
 is_handed_as-true : (number : ℕ) (op : Op) → 1 ≤ number → is_handed_as number op ≡ true → handed_as op ≡ Some number
 is_handed_as-true number op some passes = by_number (handed_as op) refl
@@ -80,15 +77,6 @@ source-cases plan sound taker inside = by_origin (origin_of (op_in plan taker)) 
         inl (handed.maker, (handed.maker_in, handed.given), λ replies. standing_of_number-maker plan replies number handed.maker numbered.least handed.maker_in handed.given handed.only_maker)
     by_origin Skip is = inr (λ replies. refl)
 
--- a block that an op takes stands for its maker
-pub source_at-maker : (plan : Plan) → IsSound plan → (replies : List (List Reply)) (taker : Place) (at : ℕ) → IsIn plan taker → source_at plan replies taker ≡ Some at
-    → (maker : Place) × Takes plan taker maker × (stands_at replies maker ≡ Some at)
-source_at-maker plan sound replies taker at inside is =
-    ⊎_elim
-    (λ (maker, takes, stands). (maker, takes, sym (stands replies) ∙ is))
-    (λ none. absurd (let nothing : None ≡ Some at = sym (none replies) ∙ is in cc))
-    (source-cases plan sound taker inside)
-
 -- the source of an op stays as long as what stands for its maker
 pub source_at-same : (plan : Plan) → IsSound plan → (replies more : List (List Reply)) (taker : Place) → IsIn plan taker → ((maker : Place) → Takes plan taker maker → stands_at more maker ≡ stands_at replies maker)
     → source_at plan more taker ≡ source_at plan replies taker
@@ -97,17 +85,6 @@ source_at-same plan sound replies more taker inside same =
     (λ (maker, takes, stands). stands more ∙ same maker takes ∙ sym (stands replies))
     (λ none. none more ∙ sym (none replies))
     (source-cases plan sound taker inside)
-
--- the source from the log's own replies and the blocks handed off
-pub source_with-at : (plan : Plan) → IsSound plan → (replies : List (List Reply)) (handed : List (Option ℕ)) (place : Place) → IsIn plan place
-    → ((number : ℕ) → IsNumbered plan number → get_or handed (number - 1) None ≡ standing_of_number plan.logs replies number)
-    → source_with (get_or replies place.log []) handed (origin_of (op_in plan place)) ≡ source_at plan replies place
-source_with-at plan sound replies handed place inside stands = by_origin (origin_of (op_in plan place)) refl
-  where
-    by_origin : (origin : Origin) → origin_of (op_in plan place) ≡ origin → source_with (get_or replies place.log []) handed origin ≡ source_of plan.logs replies place.log origin
-    by_origin (Own op) is = refl
-    by_origin (Claim number) is = stands number (sound.taken place number inside is)
-    by_origin Skip is = refl
 
 pub place-same : (a b : Place) → a.log ≡ b.log → a.op ≡ b.op → a ≡ b
 place-same a b logs ops = ap (λ (l : ℕ). let p : Place = record { log = l; op = a.op } in p) logs ∙ ap (λ (o : ℕ). let p : Place = record { log = b.log; op = o } in p) ops

@@ -1,145 +1,170 @@
--- The turn of a log: what its op may read, and what holds behind it.
-use Rattle.std.proofs.Common.{◌≡◌, ◌≢◌, ℕ, ◌+◌, ◌<◌, ◌≤◌, List, [], ◌∷◌, ◌++◌, Option, Some, None, length, get_or, map, vec_capacity, arith, ap, sym, subst, ⊎_elim, ◌∙◌}
-use Rattle.std.specs.Prelude.{IfSome}
+-- The turn of a log: what its op may take, and what holds behind it.
+use Rattle.std.proofs.Common.{◌≡◌, ℕ, ◌+◌, ◌<◌, ◌≤◌, List, [], ◌∷◌, ◌++◌, Option, Some, None, length, get_or, vec_capacity, arith, ap, sym, subst, ◌∙◌}
 use Rattle.std.specs.Global.{Vec}
 use Rattle.std.proofs.Math.ListN.{set}
-use Rattle.std.proofs.lemmas.Bool.{cases_eq, cases_lt}
-use Rattle.std.proofs.lemmas.List.{get_or-map, get_or-set_other, get_or-set_same, get_or_append_left, get_or_push, length-set, length_push, map-set}
+use Rattle.std.proofs.lemmas.List.{get_or-map, length-map, map-set}
 use Rattle.std.proofs.lemmas.List.Elements.{All-get_or}
+use Rattle.ng_heap.specs.Keeps.{KeepsFrames}
 use Rattle.ng_plan.specs.declared.step.Place.{Place}
 use Rattle.ng_plan.specs.Sound.{IsIn, IsNumbered, IsSound, TakesOwnOps, op_in, op_of_log}
-use Rattle.ng_terms.specs.declared.entry.Entry.{Entry}
+use Rattle.ng_space.specs.Blocks.{BlockToken}
+use Rattle.ng_space.specs.Callers.{Caller, fresh_caller}
+use Rattle.ng_space.specs.Parcels.{ParcelToken}
 use Rattle.ng_terms.specs.declared.plan.Op.{Op}
 use Rattle.ng_terms.specs.declared.plan.Op.TheVariants.{Make}
 use Rattle.ng_terms.specs.declared.plan.Origin.TheVariants.{Own, Claim}
 use Rattle.ng_terms.specs.declared.plan.Plan.{Plan}
 use Rattle.ng_terms.specs.declared.reply.Reply.{Reply}
-use Rattle.ng_terms.specs.Calls.{FitsOp, calls_of, handed_as, origin_of, size_of, standing}
-use Rattle.ng_terms.specs.Heap.{IsLive}
-use Rattle.ng_terms.specs.Histories.{Event, live_after}
+use Rattle.ng_terms.specs.Calls.{FitsOp, calls_of, handed_as, origin_of, size_of}
+use Rattle.ng_replay.specs.Books.{hand_at}
 use Rattle.ng_replay.specs.Room.{HaveRoom}
-use Rattle.ng_replay.specs.Serial.{AreServed, HasSpare, IsNumberIn, KeepsMostBound, handed_with, replies_in, source_at, source_with}
-use Rattle.ng_replay.specs.Serving.{Carries, MostFor, plain}
-use Rattle.ng_replay.proofs.BookLemmas.{HasSpare-more, HasSpare-two, IsMostBound-more}
-use Rattle.ng_replay.proofs.HeldLemmas.{source-lives}
-use Rattle.ng_replay.proofs.ServedLemmas.{AreServed-more, length-replies_in, next-left, next_place}
-use Rattle.ng_replay.proofs.SourceLemmas.{source_with-at}
-use Rattle.ng_replay.proofs.TurnLemmas.{turns_had-within}
+use Rattle.ng_replay.specs.Serial.{AreHeld, AreInHand, AreServed, IsNumberIn, IsVacant, KeepsBalance, KeepsMostBound, at_of_parcel, blocks_in, handed_after, handed_in, handed_without, held_in, places_of, replies_in, row_after, source_at, source_with}
+use Rattle.ng_replay.specs.Serving.{MostFor, at_of, plain}
+use Rattle.ng_replay.proofs.BookLemmas.{IsMostBound-more}
+use Rattle.ng_replay.proofs.HandLemmas.{AreInHand-more}
+use Rattle.ng_replay.proofs.RowLemmas.{get_or-there}
+use Rattle.ng_replay.proofs.ServedLemmas.{AreServed-more, next-left, next-vacant, next_place}
 
 -- the row and the next op of the log whose turn it is
-pub record IsTurnOf (plan : Plan) (turn : ℕ) (rows : List (Vec Reply)) (log : ℕ) (row : Vec Reply) (replies : List Reply) (op : Op) : Type 0 where
+pub record IsTurnOf (plan : Plan) (turn : ℕ) (rows : List (Vec Reply)) (log : ℕ) (row : Vec Reply) (op : Op) : Type 0 where
   pub turn_in : turn < length plan.order
   pub log_is : get_or plan.order turn 0 ≡ log
   pub log_in : log < length plan.logs
   pub row_is : row ≡ get_or rows log row
-  pub replies_are : replies ≡ row.items
-  pub op_is : op ≡ op_of_log (get_or plan.logs log []) (length replies)
+  pub op_is : op ≡ op_of_log (get_or plan.logs log []) (length row.items)
 
 -- the turn as the code reads it
-pub turn-of : {plan : Plan} {turn : ℕ} {rows : List (Vec Reply)} {row : Vec Reply} (order : List ℕ) (logs : List (List Op)) (ops read : List Op) (replies : List Reply) → turn < length plan.order → order ≡ plan.order → logs ≡ plan.logs
-    → get_or order turn 0 < length logs → ops ≡ get_or logs (get_or order turn 0) [] → row ≡ get_or rows (get_or order turn 0) row → read ≡ ops → replies ≡ row.items
-    → IsTurnOf plan turn rows (get_or order turn 0) row replies (get_or read (length replies) (Make 0 0 None))
-turn-of {plan = plan} {turn = turn} order logs ops read replies within order_is logs_is log_in ops_is row_is read_is replies_is = record {
+pub turn-of : {plan : Plan} {turn : ℕ} {rows : List (Vec Reply)} {row : Vec Reply} (order : List ℕ) (logs : List (List Op)) (ops read : List Op) (place : ℕ)
+    → turn < length plan.order → order ≡ plan.order → logs ≡ plan.logs
+    → get_or order turn 0 < length logs → ops ≡ get_or logs (get_or order turn 0) [] → row ≡ get_or rows (get_or order turn 0) row → read ≡ ops
+    → place ≡ length row.items
+    → IsTurnOf plan turn rows (get_or order turn 0) row (get_or read place (Make 0 0 None))
+turn-of {plan = plan} {turn = turn} {row = row} order logs ops read place within order_is logs_is log_in ops_is row_is read_is place_is = record {
   turn_in = within;
   log_is = ap (λ (o : List ℕ). get_or o turn 0) (sym order_is);
   log_in = rw logs_is at log_in;
   row_is = row_is;
-  replies_are = replies_is;
-  op_is = ap (λ (o : List Op). op_of_log o (length replies)) (read_is ∙ ops_is ∙ ap (λ (l : List (List Op)). get_or l (get_or order turn 0) []) logs_is);
+  op_is = ap (λ (p : ℕ). op_of_log read p) place_is ∙ ap (λ (o : List Op). op_of_log o (length row.items)) (read_is ∙ ops_is ∙ ap (λ (l : List (List Op)). get_or l (get_or order turn 0) []) logs_is);
 }
 
--- one row more has room for the replies of its log
-pub HaveRoom-more : (logs : List (List Op)) (rows : List (Vec Reply)) (row : Vec Reply) → length (get_or logs (length rows) []) ≤ vec_capacity row → HaveRoom logs rows → HaveRoom logs (rows ++ row ∷ [])
-HaveRoom-more logs rows row fits room log d below =
-    ⊎_elim
-    (λ before. rw (get_or_append_left rows (row ∷ []) d log before) (room log d before))
-    (λ last. let at : length rows ≡ log = omega (arith, length_push rows row) in rw (get_or_push rows row d log at) (subst (λ (k : ℕ). length (get_or logs k []) ≤ vec_capacity row) at fits))
-    (cases_lt log (length rows))
-
--- a row with one reply more keeps its room
-pub HaveRoom-push : (logs : List (List Op)) (rows : List (Vec Reply)) (log : ℕ) (row more : Vec Reply) → row ≡ get_or rows log row → log < length rows → vec_capacity more ≡ vec_capacity row → HaveRoom logs rows → HaveRoom logs (set rows log more)
-HaveRoom-push logs rows log row more is within same room other d below = ⊎_elim here there (cases_eq other log)
-  where
-    here : other ≡ log → length (get_or logs other []) ≤ vec_capacity (get_or (set rows log more) other d)
-    here at =
-        let new : vec_capacity (get_or (set rows log more) log d) ≡ vec_capacity (get_or rows log row) = ap vec_capacity (get_or-set_same rows log more d within) ∙ same ∙ ap vec_capacity is in
-        subst (λ (k : ℕ). length (get_or logs k []) ≤ vec_capacity (get_or (set rows log more) k d)) (sym at) (omega (arith, room log row within))
-
-    there : other ≢ log → length (get_or logs other []) ≤ vec_capacity (get_or (set rows log more) other d)
-    there away = rw (get_or-set_other rows log other more d away) (room other d (omega (arith, length-set rows log more)))
-
-module _ {plan : Plan} {turn log : ℕ} {rows : List (Vec Reply)} {row : Vec Reply} {replies : List Reply} {op : Op} {handed : List (Option ℕ)} {before : List Event} (sound : IsSound plan) (this : IsTurnOf plan turn rows log row replies op) (served : AreServed plan turn (replies_in rows) handed before) where
+module _ {plan : Plan} {turn log : ℕ} {rows : List (Vec Reply)} {row : Vec Reply} {op : Op} (blocks : List (Vec (Option BlockToken)))
+    (parcels : List (Option ParcelToken)) (sound : IsSound plan) (this : IsTurnOf plan turn rows log row op)
+    (served : AreServed plan turn (replies_in rows) (held_in (blocks_in blocks)) (handed_in parcels)) where
   abbrev place : Place
   place = next_place (replies_in rows) log
 
-  row_in : log < length rows
-  row_in = omega (arith, this.log_in, served.logs, length-replies_in rows)
+  pub row-in : log < length rows
+  row-in = omega (arith, this.log_in, served.logs, length-map rows (λ (r : Vec Reply). r.items))
 
-  row_items : get_or (replies_in rows) log [] ≡ replies
-  row_items = get_or-map (λ (r : Vec Reply). r.items) rows log row [] row_in ∙ sym (ap (λ (r : Vec Reply). r.items) this.row_is) ∙ sym this.replies_are
+  pub blocks-in : log < length blocks
+  blocks-in = omega (arith, this.log_in, served.rows, length-map (blocks_in blocks) places_of, length-map blocks (λ (r : Vec (Option BlockToken)). r.items))
+
+  row_items : get_or (replies_in rows) log [] ≡ row.items
+  row_items = get_or-map (λ (r : Vec Reply). r.items) rows log row [] row-in ∙ sym (ap (λ (r : Vec Reply). r.items) this.row_is)
 
   place_in : IsIn plan place
-  place_in = next-left plan sound turn log (replies_in rows) handed before this.turn_in this.log_is this.log_in served
+  place_in = next-left sound this.turn_in this.log_is this.log_in served
 
-  pub op-left : length replies < length (get_or plan.logs log [])
+  pub op-left : length row.items < length (get_or plan.logs log [])
   op-left = omega (arith, place_in.op, ap length row_items)
 
   op_same : op ≡ op_in plan place
   op_same = this.op_is ∙ ap (op_of_log (get_or plan.logs log [])) (ap length (sym row_items))
 
-  pub own-earlier : (maker : ℕ) → origin_of op ≡ Own maker → maker < length replies
-  own-earlier maker own =
-      let ops : TakesOwnOps (get_or plan.logs log []) = All-get_or TakesOwnOps plan.logs log [] this.log_in sound.own in
-      omega (arith, ops.earlier place.op maker place_in.op (ap origin_of (sym op_same) ∙ own), ap length row_items)
+  is_number : (number : ℕ) → IsNumbered plan number → IsNumberIn parcels number
+  is_number number numbered = record { least = numbered.least; most = omega (arith, served.numbers, length-map parcels at_of_parcel, numbered.most) }
 
-  is_number : (number : ℕ) → IsNumbered plan number → IsNumberIn handed number
-  is_number number numbered = record { least = numbered.least; most = omega (arith, served.numbers, numbered.most) }
-
-  pub claim-numbered : (number : ℕ) → origin_of op ≡ Claim number → IsNumberIn handed number
+  pub claim-numbered : (number : ℕ) → origin_of op ≡ Claim number → IsNumberIn parcels number
   claim-numbered number claim = is_number number (sound.taken place number place_in (ap origin_of (sym op_same) ∙ claim))
 
-  pub handed-numbered : (number : ℕ) → handed_as op ≡ Some number → IsNumberIn handed number
+  pub handed-numbered : (number : ℕ) → handed_as op ≡ Some number → IsNumberIn parcels number
   handed-numbered number given = is_number number (sound.given place number place_in (ap handed_as (sym op_same) ∙ given))
 
-  source_same : source_with replies handed (origin_of op) ≡ source_at plan (replies_in rows) place
-  source_same =
-      ap (λ (r : List Reply). source_with r handed (origin_of op)) (sym row_items)
-      ∙ ap (λ (o : Op). source_with (get_or (replies_in rows) log []) handed (origin_of o)) op_same
-      ∙ source_with-at plan sound (replies_in rows) handed place place_in served.handed_off
-
-  pub source-live : IfSome (source_with replies handed (origin_of op)) (IsLive (live_after before))
-  source-live = rw source_same (source-lives plan sound (replies_in rows) (live_after before) place place_in (λ done. omega arith) served.held)
-
-  pub two-spare : (spare : ℕ) → HasSpare plan.logs (replies_in rows) spare → 2 ≤ spare
-  two-spare spare has =
-      HasSpare-two plan.logs (replies_in rows) spare log served.logs this.log_in
-      (λ other below. omega (arith, served.done other below, turns_had-within plan sound other turn below)) place_in.op has
+  pub vacant : IsVacant (handed_as op) (handed_without (origin_of op) (handed_in parcels))
+  vacant = subst (λ (o : Op). IsVacant (handed_as o) (handed_without (origin_of o) (handed_in parcels))) (sym op_same) (next-vacant sound this.turn_in this.log_is this.log_in served)
 
   pub row-room : HaveRoom plan.logs rows → length row.items < vec_capacity row
-  row-room room = omega (arith, op-left, ap length this.replies_are, room log row row_in, ap vec_capacity this.row_is)
-
-  pub room-kept : (more : Vec Reply) → vec_capacity more ≡ vec_capacity row → HaveRoom plan.logs rows → HaveRoom plan.logs (set rows log more)
-  room-kept more same room = HaveRoom-push plan.logs rows log row more this.row_is row_in same room
-
-  replies_same : (more : Vec Reply) (reply : Reply) → more.items ≡ row.items ++ reply ∷ [] → replies_in (set rows log more) ≡ set (replies_in rows) log (get_or (replies_in rows) log [] ++ reply ∷ [])
-  replies_same more reply grown =
-      map-set (λ (r : Vec Reply). r.items) rows log more
-      ∙ ap (set (replies_in rows) log) (grown ∙ ap (λ (r : List Reply). r ++ reply ∷ []) (sym this.replies_are ∙ sym row_items))
-
-  pub spare-kept : (more : Vec Reply) (reply : Reply) (spare left : ℕ) → more.items ≡ row.items ++ reply ∷ [] → HasSpare plan.logs (replies_in rows) spare → spare ≤ left + 2 → HasSpare plan.logs (replies_in (set rows log more)) left
-  spare-kept more reply spare left grown has used =
-      rw (replies_same more reply grown) (HasSpare-more plan.logs (replies_in rows) spare left log reply (omega (arith, served.logs, this.log_in)) has used)
+  row-room room = omega (arith, op-left, room log row row-in, ap vec_capacity this.row_is)
 
   pub most-kept : (from to : ℕ) → MostFor from to (size_of op) → KeepsMostBound plan from to
   most-kept from to most first so_far = IsMostBound-more plan place first from to place_in so_far (subst (λ (o : Op). MostFor from to (size_of o)) op_same most)
 
-  pub served-more : (more : Vec Reply) (reply : Reply) (now : List Event) → more.items ≡ row.items ++ reply ∷ [] → FitsOp plain (source_with replies handed (origin_of op)) op reply
-      → now ≡ before ++ map (λ (e : Entry). (log + 1, e)) (calls_of plain op reply) → Carries (live_after before) (live_after now) (source_with replies handed (origin_of op)) (standing reply)
-      → AreServed plan (turn + 1) (replies_in (set rows log more)) (handed_with (handed_as op) (standing reply) handed) now
-  served-more more reply now grown fits history carries =
-      rw (replies_same more reply grown)
-      (subst (λ (o : Op). AreServed plan (turn + 1) (set (replies_in rows) log (get_or (replies_in rows) log [] ++ reply ∷ [])) (handed_with (handed_as o) (standing reply) handed) now) (sym op_same)
-      (AreServed-more plan sound turn log (replies_in rows) handed before now reply this.turn_in this.log_is this.log_in served
-      (subst (λ (o : Op). FitsOp plain (source_at plan (replies_in rows) place) o reply) op_same (rw source_same at fits))
-      (history ∙ ap (λ (o : Op). before ++ map (λ (e : Entry). (log + 1, e)) (calls_of plain o reply)) op_same)
-      (rw source_same at carries)))
+  replies_same : (more : Vec Reply) (reply : Reply) → more.items ≡ row.items ++ reply ∷ []
+      → replies_in (set rows log more) ≡ set (replies_in rows) log (get_or (replies_in rows) log [] ++ reply ∷ [])
+  replies_same more reply grown =
+      map-set (λ (r : Vec Reply). r.items) rows log more
+      ∙ ap (set (replies_in rows) log) (grown ∙ ap (λ (r : List Reply). r ++ reply ∷ []) (sym row_items))
+
+  -- the blocks of the log
+  module _ {mine : Vec (Option BlockToken)} (mine_is : mine ≡ get_or blocks log mine) where
+    mine_items : get_or (blocks_in blocks) log [] ≡ mine.items
+    mine_items = get_or-map (λ (r : Vec (Option BlockToken)). r.items) blocks log mine [] blocks-in ∙ sym (ap (λ (r : Vec (Option BlockToken)). r.items) mine_is)
+
+    mine_places : get_or (held_in (blocks_in blocks)) log [] ≡ places_of mine.items
+    mine_places = get_or-map places_of (blocks_in blocks) log [] [] (omega (arith, blocks-in, length-map blocks (λ (r : Vec (Option BlockToken)). r.items))) ∙ ap places_of mine_items
+
+    mine_long : length mine.items ≡ length row.items
+    mine_long = sym (length-map mine.items at_of) ∙ ap length (sym mine_places) ∙ served.lined log this.log_in ∙ ap length row_items
+
+    pub own-earlier : (maker : ℕ) → origin_of op ≡ Own maker → maker < length mine.items
+    own-earlier maker own =
+        let ops : TakesOwnOps (get_or plan.logs log []) = All-get_or TakesOwnOps plan.logs log [] this.log_in sound.own in
+        omega (arith, ops.earlier place.op maker place_in.op (ap origin_of (sym op_same) ∙ own), ap length row_items, mine_long)
+
+    pub mine-room : HaveRoom plan.logs blocks → length mine.items < vec_capacity mine
+    mine-room room = omega (arith, op-left, mine_long, room log mine blocks-in, ap vec_capacity mine_is)
+
+    blocks_same : (more : Vec (Option BlockToken)) → blocks_in (set blocks log more) ≡ set (blocks_in blocks) log more.items
+    blocks_same more = map-set (λ (r : Vec (Option BlockToken)). r.items) blocks log more
+
+    pub served-more : (more : Vec Reply) (reply : Reply) (now : Vec (Option BlockToken)) (parcels_now : List (Option ParcelToken))
+        → more.items ≡ row.items ++ reply ∷ []
+        → FitsOp plain (source_with (places_of mine.items) (handed_in parcels) (origin_of op)) op reply
+        → places_of now.items ≡ row_after op reply (places_of mine.items)
+        → handed_in parcels_now ≡ handed_after op reply (handed_in parcels)
+        → AreServed plan (turn + 1) (replies_in (set rows log more)) (held_in (blocks_in (set blocks log now))) (handed_in parcels_now)
+    served-more more reply now parcels_now grown fits placed handed =
+        rw (replies_same more reply grown)
+        (subst (λ (h : List (List (Option ℕ))). AreServed plan (turn + 1) (set (replies_in rows) log (get_or (replies_in rows) log [] ++ reply ∷ [])) h (handed_in parcels_now)) (sym held_same)
+        (subst (λ (h : List (Option ℕ)). AreServed plan (turn + 1) (set (replies_in rows) log (get_or (replies_in rows) log [] ++ reply ∷ [])) (set (held_in (blocks_in blocks)) log (row_after (op_in plan place) reply (get_or (held_in (blocks_in blocks)) log []))) h) (sym handed_same)
+        (AreServed-more sound this.turn_in this.log_is this.log_in served reply fits_here)))
+      where
+        held_same : held_in (blocks_in (set blocks log now)) ≡ set (held_in (blocks_in blocks)) log (row_after (op_in plan place) reply (get_or (held_in (blocks_in blocks)) log []))
+        held_same =
+            ap held_in (blocks_same now) ∙ map-set places_of (blocks_in blocks) log now.items
+            ∙ ap (set (held_in (blocks_in blocks)) log) (placed ∙ ap (λ (o : Op). row_after o reply (places_of mine.items)) op_same ∙ ap (row_after (op_in plan place) reply) (sym mine_places))
+
+        handed_same : handed_in parcels_now ≡ handed_after (op_in plan place) reply (handed_in parcels)
+        handed_same = handed ∙ ap (λ (o : Op). handed_after o reply (handed_in parcels)) op_same
+
+        source_same : source_with (places_of mine.items) (handed_in parcels) (origin_of op) ≡ source_at plan (replies_in rows) place
+        source_same =
+            ap (λ (r : List (Option ℕ)). source_with r (handed_in parcels) (origin_of op)) (sym mine_places)
+            ∙ ap (λ (o : Op). source_with (get_or (held_in (blocks_in blocks)) log []) (handed_in parcels) (origin_of o)) op_same
+            ∙ served.ready place place_in (λ done. omega arith)
+
+        fits_here : FitsOp plain (source_at plan (replies_in rows) place) (op_in plan place) reply
+        fits_here = subst (λ (o : Op). FitsOp plain (source_at plan (replies_in rows) place) o reply) op_same (rw source_same at fits)
+
+    -- the log's hand
+    module _ {hands : List Caller} {hand : Caller} (hand_is : hand ≡ get_or hands log hand)
+        (held : AreInHand plan (replies_in rows) (blocks_in blocks) parcels hands) where
+      hand_same : hand_at hands log ≡ hand
+      hand_same = get_or-there hands log (fresh_caller 0 0) hand (omega (arith, held.books.count, this.log_in)) ∙ sym hand_is
+
+      pub two-spare : 2 ≤ hand.spare
+      two-spare = omega (arith, held.spare log this.log_in, op-left, ap length row_items, ap (λ (h : Caller). h.spare) hand_same)
+
+      pub mine-held : AreHeld hand mine.items
+      mine-held = subst (λ (h : Caller). AreHeld h mine.items) hand_same (subst (λ (r : List (Option BlockToken)). AreHeld (hand_at hands log) r) mine_items (held.held log this.log_in))
+
+      pub hands-more : (more : Vec Reply) (reply : Reply) (now : Vec (Option BlockToken)) (parcels_now : List (Option ParcelToken)) (after : Caller)
+          → more.items ≡ row.items ++ reply ∷ []
+          → KeepsFrames hand after → after.entries ≡ hand.entries ++ calls_of plain op reply → hand.spare ≤ after.spare + 2 → AreHeld after now.items
+          → KeepsBalance hand after parcels parcels_now
+          → AreInHand plan (replies_in (set rows log more)) (blocks_in (set blocks log now)) parcels_now (set hands log after)
+      hands-more more reply now parcels_now after grown frames entered used kept balance =
+          rw (replies_same more reply grown)
+          (rw (blocks_same now)
+          (AreInHand-more plan (replies_in rows) (blocks_in blocks) parcels parcels_now hands log after now.items reply served.logs (omega (arith, served.rows, length-map (blocks_in blocks) places_of)) this.log_in place_in.op held
+          (rw hand_same frames) (rw hand_same (entered ∙ ap (λ (o : Op). hand.entries ++ calls_of plain o reply) op_same)) (omega (arith, ap (λ (h : Caller). h.spare) hand_same)) kept (rw hand_same balance)))

@@ -1,19 +1,27 @@
--- A history by its callers: log k, from 0, calls under the number k + 1.
-use Rattle.std.specs.Prelude.{◌≡◌, ℕ, ◌+◌, ◌<◌, ◌≤◌, List, [], All, length, map, slice_index_or}
-use Rattle.std.specs.List.{zip}
-use Rattle.ng_terms.specs.declared.entry.Entry.{Entry}
+-- The hands of a plan's logs: log k, from 0, calls by the hand of the number k + 1.
+use Rattle.std.specs.Prelude.{◌≡◌, ℕ, ◌+◌, ◌*◌, ◌<◌, List, [], All, length, map, slice_index_or}
+use Rattle.ng_frame.specs.Framed.{AreFramed}
+use Rattle.ng_space.specs.Callers.{Caller, fresh_caller}
 use Rattle.ng_terms.specs.declared.plan.Plan.{Plan}
 use Rattle.ng_terms.specs.declared.reply.Reply.{Reply}
 use Rattle.ng_terms.specs.Calls.{calls_of_log}
-use Rattle.ng_terms.specs.Histories.{Event, book_of}
 use Rattle.ng_replay.specs.Serving.{plain}
 
--- the history is that of the plan's callers, and each one's book is the calls of its log
-pub record AreBooks (plan : Plan) (replies : List (List Reply)) (history : List Event) : Type 0 where
-  pub each : (log : ℕ) → log < length plan.logs
-      → book_of (log + 1) history ≡ calls_of_log plain (slice_index_or plan.logs log []) (slice_index_or replies log [])
-  pub numbers : All (λ event. (1 ≤ event.0) × (event.0 ≤ length plan.logs)) history
+-- the rooms of the logs' books: an op has two entries at most
+abbrev pub rooms_for : Plan → List ℕ
+rooms_for plan = map (λ ops. 2 * length ops) plan.logs
 
--- the book of each log: the calls of its ops
-abbrev pub books_of : Plan → List (List Reply) → List (List Entry)
-books_of plan replies = map (λ log. calls_of_log plain log.0 log.1) (zip plan.logs replies)
+-- the hand of a log
+abbrev pub hand_at : List Caller → ℕ → Caller
+hand_at hands log = slice_index_or hands log (fresh_caller 0 0)
+
+-- each log has its hand, whose book is the calls of the log's ops so far
+pub record AreBooks (plan : Plan) (replies : List (List Reply)) (hands : List Caller) : Type 0 where
+  pub count : length hands ≡ length plan.logs
+  pub numbers : (log : ℕ) → log < length plan.logs → (hand_at hands log).number ≡ log + 1
+  pub each : (log : ℕ) → log < length plan.logs
+      → (hand_at hands log).entries ≡ calls_of_log plain (slice_index_or plan.logs log []) (slice_index_or replies log [])
+
+-- each block of the hands is framed
+abbrev pub AreAllFramed : List Caller → Type 0
+AreAllFramed hands = All (λ (hand : Caller). AreFramed hand.view) hands

@@ -1,25 +1,41 @@
-ghost use Rattle.std.specs.Prelude.{◌≡◌, ◌+◌, ◌≤◌, ◌++◌, map, None};
+ghost use Rattle.std.specs.Prelude.{◌≡◌, ◌+◌, ◌≤◌, ◌++◌, IfSome};
+ghost use Rattle.ng_group.specs.Steps.{GoesOn};
+ghost use Rattle.ng_heap.specs.Keeps.{IsFresh, KeepsAll, KeepsFrames, KeepsRest};
+ghost use Rattle.ng_replay.specs.Serving.{MostFor, at_of, plain};
+ghost use Rattle.ng_space.specs.Blocks.{HasFramed};
 ghost use Rattle.ng_terms.specs.Calls.{FitsMade, calls_of_make, reply_of, standing};
-ghost use Rattle.ng_replay.specs.Serving.{plain, Carries, MostFor};
-ghost use Rattle.ng_terms.specs.Histories.{live_after};
 
-use crate::heap::SequentialHeap;
-use ng_terms::{AllocRefusal, Made};
+use ng_group::Core;
+use ng_heap::{AllocRefusal, Heap};
+use ng_mapper::Mapper;
+use ng_policy::Rules;
+use ng_space::{Block, Hand, Name};
+use ng_terms::Made;
 
-/// Makes a block of a size for a caller.
-pub fn make<H: SequentialHeap>(heap: &mut H, caller: u32, size: u64) -> Made
-    requires { 1 ≤ H.spare heap.old }
-    ensures fits { FitsMade plain size result }
-    ensures history { H.history heap.new ≡ H.history heap.old ++ map (λ entry. (caller, entry)) (calls_of_make plain size result) }
-    ensures carries { Carries (live_after (H.history heap.old)) (live_after (H.history heap.new)) None (standing (reply_of result)) }
+/// Makes a block of a size for a hand, and tells what came of it.
+pub fn make<N: Name, M: Mapper, P: Rules>(
+    heap: &Heap<N>,
+    core: &mut Core<N, M, P>,
+    hand: &mut Hand<N>,
+    size: u64,
+) -> (Made, Option<Block<N>>)
+    requires spare { 1 ≤ hand.old.spare }
+    ensures fits { FitsMade plain size result.0 }
+    ensures entries { hand.new.entries ≡ hand.old.entries ++ calls_of_make plain size result.0 }
+    ensures stands { at_of result.1 ≡ standing (reply_of result.0) }
+    ensures framed { IfSome result.1 (HasFramed hand.new) }
+    ensures fresh { IfSome result.1 (λ block. IsFresh hand.old block.slot) }
+    ensures most { MostFor (M.refused core.old.mapper).most (M.refused core.new.mapper).most size }
 
-    ensures most { MostFor (H.counts heap.old).most (H.counts heap.new).most size }
-    ensures spare { H.spare heap.new + 1 ≡ H.spare heap.old }
-    ensures setting { H.setting heap.new ≡ H.setting heap.old }
+    ensures kept { KeepsAll hand.old hand.new }
+    ensures frames { KeepsFrames hand.old hand.new }
+    ensures rest { KeepsRest hand.old.view hand.new.view }
+    ensures spare { hand.new.spare + 1 ≡ hand.old.spare }
+    ensures on { GoesOn core.old.seat core.new.seat }
 {
-    match heap.malloc(caller, size) {
-        Ok(at) => Made::Given { at },
-        Err(AllocRefusal::NoMemory { excuse }) => Made::NoMemory { excuse },
-        Err(AllocRefusal::TooLarge) => Made::TooLarge,
+    match heap.malloc_in(core, hand, size) {
+        Ok(block) => (Made::Given { at: block.at() }, Some(block)),
+        Err(AllocRefusal::NoMemory { excuse }) => (Made::NoMemory { excuse }, None),
+        Err(AllocRefusal::TooLarge) => (Made::TooLarge, None),
     }
 }

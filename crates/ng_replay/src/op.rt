@@ -1,32 +1,57 @@
-ghost use Rattle.std.specs.Prelude.{◌≡◌, ◌+◌, ◌≤◌, ◌++◌, map, IfSome, None, Some};
-ghost use Rattle.ng_terms.specs.Calls.{FitsMoved, FitsOp, calls_for, calls_of, reply_of, reply_of_free, size_of, standing};
-ghost use Rattle.ng_terms.specs.Heap.{IsLive};
-ghost use Rattle.ng_replay.specs.Serving.{plain, Carries, MostFor};
-ghost use Rattle.ng_terms.specs.Histories.{live_after};
+ghost use Rattle.std.specs.Prelude.{◌≡◌, ◌+◌, ◌≤◌, ◌++◌, ◌∷◌, [], IfSome, None};
+ghost use Rattle.ng_group.specs.Steps.{GoesOn};
+ghost use Rattle.ng_group.specs.Hands.{IsApart};
+ghost use Rattle.ng_heap.specs.Keeps.{IsFresh, KeepsAll, KeepsFrames, KeepsOthers, KeepsRest};
+ghost use Rattle.ng_replay.specs.Serving.{IsApartFrom, MostFor, at_of, plain};
+ghost use Rattle.ng_space.specs.Blocks.{BlockToken, HasFramed};
+ghost use Rattle.ng_terms.specs.Calls.{FitsMade, FitsMoved, FitsOp, calls_for, calls_of, reply_of, reply_of_free, size_of, standing};
+ghost use Rattle.ng_terms.specs.declared.entry.Entry.TheVariants.{Take};
 
-use crate::heap::SequentialHeap;
+use crate::apart::tell_apart;
 use crate::make::make;
-use ng_terms::{AllocRefusal, Made, Op, Origin, Reply};
+use ng_group::Core;
+use ng_heap::{AllocRefusal, Heap};
+use ng_mapper::Mapper;
+use ng_policy::Rules;
+use ng_space::{Block, Hand, Name};
+use ng_terms::{Made, Op, Origin, Reply};
 
-/// Does an op for a caller. `source` is the address of the block that the op takes.
-pub fn do_op<H: SequentialHeap>(heap: &mut H, caller: u32, op: &Op, source: Option<u64>) -> Reply
-    requires room { 2 ≤ H.spare heap.old }
-    requires live { IfSome source (IsLive (live_after (H.history heap.old))) }
-    ensures fits { FitsOp plain source op.now result }
-    ensures history { H.history heap.new ≡ H.history heap.old ++ map (λ entry. (caller, entry)) (calls_of plain op.now result) }
-    ensures carries { Carries (live_after (H.history heap.old)) (live_after (H.history heap.new)) source (standing result) }
+/// Does an op by its log's hand. `source` is the block that the op takes; one that it doesn't take stays in the hand. Beside
+/// the reply comes the block that stands for the op then.
+pub fn do_op<N: Name, M: Mapper, P: Rules>(
+    heap: &Heap<N>,
+    core: &mut Core<N, M, P>,
+    hand: &mut Hand<N>,
+    op: &Op,
+    source: Option<Block<N>>,
+) -> (Reply, Option<Block<N>>)
+    requires room { 2 ≤ hand.old.spare }
+    requires framed { IfSome source (HasFramed hand.old) }
+    ensures fits { FitsOp plain (at_of source) op.now result.0 }
+    ensures entries { hand.new.entries ≡ hand.old.entries ++ calls_of plain op.now result.0 }
+    ensures stands { at_of result.1 ≡ standing result.0 }
+    ensures framed { IfSome result.1 (HasFramed hand.new) }
+    ensures most { MostFor (M.refused core.old.mapper).most (M.refused core.new.mapper).most (size_of op.now) }
 
-    ensures most { MostFor (H.counts heap.old).most (H.counts heap.new).most (size_of op.now) }
-    ensures spare { H.spare heap.old ≤ H.spare heap.new + 2 }
-    ensures setting { H.setting heap.new ≡ H.setting heap.old }
+    // The other blocks of the hand stay, and the block that stands now is apart from them.
+    ensures others { (other : BlockToken) → IsApartFrom source other → HasFramed hand.old other → HasFramed hand.new other }
+    ensures apart { (other : BlockToken) → IsApartFrom source other → HasFramed hand.old other → IsApartFrom result.1 other }
+
+    ensures frames { KeepsFrames hand.old hand.new }
+    ensures rest { KeepsRest hand.old.view hand.new.view }
+    ensures spare { hand.old.spare ≤ hand.new.spare + 2 }
+    ensures on { GoesOn core.old.seat core.new.seat }
 {
     match *op {
         Op::Make {
             name: _,
             size,
             to: _,
-        } => reply_to_make(make(heap, caller, size)),
-        Op::Free { name: _, from } => free(heap, caller, from, source),
+        } => {
+            leave(hand, source);
+            make_anew(heap, core, hand, size)
+        }
+        Op::Free { name: _, from } => (free(heap, core, hand, from, source), None),
         Op::Move {
             old: _,
             name: _,
@@ -34,13 +59,53 @@ pub fn do_op<H: SequentialHeap>(heap: &mut H, caller: u32, op: &Op, source: Opti
             size,
             to: _,
         } => match source {
-            Some(old) => move_from(heap, caller, old, size),
-            None => Reply::Fresh {
-                skipped: from == Origin::Skip,
-                made: make(heap, caller, size),
-            },
+            Some(old) => move_from(heap, core, hand, old, size),
+            None => {
+                let (made, block) = make(heap, core, hand, size);
+                (
+                    Reply::Fresh {
+                        skipped: from == Origin::Skip,
+                        made,
+                    },
+                    block,
+                )
+            }
         },
     }
+}
+
+/// Leaves a source that the op doesn't take, whose block stays live in the hand.
+fn leave<N: Name>(hand: &mut Hand<N>, source: Option<Block<N>>)
+    ensures { hand.new ≡ hand.old }
+{
+    if let Some(block) = source {
+        hand.leave(block);
+    }
+}
+
+/// Makes a block, and tells the reply to the make.
+fn make_anew<N: Name, M: Mapper, P: Rules>(
+    heap: &Heap<N>,
+    core: &mut Core<N, M, P>,
+    hand: &mut Hand<N>,
+    size: u64,
+) -> (Reply, Option<Block<N>>)
+    requires spare { 1 ≤ hand.old.spare }
+    ensures fits { (made : Made) × (result.0 ≡ reply_of made) × FitsMade plain size made }
+    ensures entries { hand.new.entries ≡ hand.old.entries ++ calls_for plain size result.0 }
+    ensures stands { at_of result.1 ≡ standing result.0 }
+    ensures framed { IfSome result.1 (HasFramed hand.new) }
+    ensures fresh { IfSome result.1 (λ block. IsFresh hand.old block.slot) }
+    ensures most { MostFor (M.refused core.old.mapper).most (M.refused core.new.mapper).most size }
+
+    ensures kept { KeepsAll hand.old hand.new }
+    ensures frames { KeepsFrames hand.old hand.new }
+    ensures rest { KeepsRest hand.old.view hand.new.view }
+    ensures spare { hand.new.spare + 1 ≡ hand.old.spare }
+    ensures on { GoesOn core.old.seat core.new.seat }
+{
+    let (made, block) = make(heap, core, hand, size);
+    (reply_to_make(made), block)
 }
 
 /// The reply to a make with this outcome.
@@ -55,51 +120,107 @@ fn reply_to_make(made: Made) -> Reply
     }
 }
 
-/// Frees the block at the source, where there is one.
-fn free<H: SequentialHeap>(heap: &mut H, caller: u32, from: Origin, source: Option<u64>) -> Reply
-    requires room { 1 ≤ H.spare heap.old }
-    requires live { IfSome source (IsLive (live_after (H.history heap.old))) }
-    ensures fits { result ≡ reply_of_free from source }
-    ensures history { H.history heap.new ≡ H.history heap.old ++ map (λ entry. (caller, entry)) (calls_for plain 0 result) }
-    ensures carries { Carries (live_after (H.history heap.old)) (live_after (H.history heap.new)) source (standing result) }
+/// Frees the source, where there is one.
+fn free<N: Name, M: Mapper, P: Rules>(
+    heap: &Heap<N>,
+    core: &mut Core<N, M, P>,
+    hand: &mut Hand<N>,
+    from: Origin,
+    source: Option<Block<N>>,
+) -> Reply
+    requires room { 1 ≤ hand.old.spare }
+    requires framed { IfSome source (HasFramed hand.old) }
+    ensures fits { result ≡ reply_of_free from (at_of source) }
+    ensures entries { hand.new.entries ≡ hand.old.entries ++ calls_for plain 0 result }
+    ensures stands { standing result ≡ None }
+    ensures calm { M.refused core.new.mapper ≡ M.refused core.old.mapper }
 
-    ensures calm { H.counts heap.new ≡ H.counts heap.old }
-    ensures spare { H.spare heap.old ≤ H.spare heap.new + 1 }
-    ensures setting { H.setting heap.new ≡ H.setting heap.old }
+    ensures others { (other : BlockToken) → IsApartFrom source other → HasFramed hand.old other → HasFramed hand.new other }
+    ensures frames { KeepsFrames hand.old hand.new }
+    ensures rest { KeepsRest hand.old.view hand.new.view }
+    ensures spare { hand.old.spare ≤ hand.new.spare + 1 }
+    ensures on { GoesOn core.old.seat core.new.seat }
 {
     if from == Origin::Skip {
+        leave(hand, source);
         return Reply::Skipped;
     }
     match source {
-        Some(at) => {
-            heap.free(caller, at);
+        Some(block) => {
+            let at = block.at();
+            free_framed(heap, core, hand, block);
             Reply::Freed { at }
         }
         None => Reply::Absent,
     }
 }
 
-/// Moves the block at an address to a new one of a size. Where the new one is refused the old one stands.
-fn move_from<H: SequentialHeap>(heap: &mut H, caller: u32, old: u64, size: u64) -> Reply
-    requires room { 2 ≤ H.spare heap.old }
-    requires live { IsLive (live_after (H.history heap.old)) old }
-    ensures fits { FitsMoved old size result }
-    ensures history { H.history heap.new ≡ H.history heap.old ++ map (λ entry. (caller, entry)) (calls_for plain size result) }
-    ensures carries { Carries (live_after (H.history heap.old)) (live_after (H.history heap.new)) (Some old) (standing result) }
+/// Frees a framed block, which can't be refused.
+fn free_framed<N: Name, M: Mapper, P: Rules>(
+    heap: &Heap<N>,
+    core: &mut Core<N, M, P>,
+    hand: &mut Hand<N>,
+    block: Block<N>,
+)
+    requires room { 1 ≤ hand.old.spare }
+    requires framed { HasFramed hand.old block }
+    ensures taken { hand.new.entries ≡ hand.old.entries ++ Take block.at ∷ [] }
+    ensures calm { M.refused core.new.mapper ≡ M.refused core.old.mapper }
 
-    ensures most { MostFor (H.counts heap.old).most (H.counts heap.new).most size }
-    ensures spare { H.spare heap.old ≤ H.spare heap.new + 2 }
-    ensures setting { H.setting heap.new ≡ H.setting heap.old }
+    ensures others { KeepsOthers block.slot hand.old hand.new }
+    ensures frames { KeepsFrames hand.old hand.new }
+    ensures rest { KeepsRest hand.old.view hand.new.view }
+    ensures spare { hand.new.spare + 1 ≡ hand.old.spare }
+    ensures on { GoesOn core.old.seat core.new.seat }
 {
-    match heap.malloc(caller, size) {
-        Ok(at) => {
-            heap.free(caller, old);
-            Reply::Moved { old, at }
+    match heap.free_in(core, hand, block) {
+        Ok(()) => {}
+        Err((_left, _)) => unreachable!(),
+    }
+}
+
+/// Moves a block to a new one of a size. Where the new one is refused the old one stands.
+fn move_from<N: Name, M: Mapper, P: Rules>(
+    heap: &Heap<N>,
+    core: &mut Core<N, M, P>,
+    hand: &mut Hand<N>,
+    old: Block<N>,
+    size: u64,
+) -> (Reply, Option<Block<N>>)
+    requires room { 2 ≤ hand.old.spare }
+    requires framed { HasFramed hand.old old }
+    ensures fits { FitsMoved old.at size result.0 }
+    ensures entries { hand.new.entries ≡ hand.old.entries ++ calls_for plain size result.0 }
+    ensures stands { at_of result.1 ≡ standing result.0 }
+    ensures framed { IfSome result.1 (HasFramed hand.new) }
+    ensures most { MostFor (M.refused core.old.mapper).most (M.refused core.new.mapper).most size }
+
+    ensures others { (other : BlockToken) → IsApart other.slot old.slot → HasFramed hand.old other → HasFramed hand.new other }
+    ensures apart { (other : BlockToken) → IsApart other.slot old.slot → HasFramed hand.old other → IsApartFrom result.1 other }
+
+    ensures frames { KeepsFrames hand.old hand.new }
+    ensures rest { KeepsRest hand.old.view hand.new.view }
+    ensures spare { hand.old.spare ≤ hand.new.spare + 2 }
+    ensures on { GoesOn core.old.seat core.new.seat }
+{
+    let at = old.at();
+    match heap.malloc_in(core, hand, size) {
+        Ok(block) => {
+            tell_apart(heap.space(), hand, &old, &block);
+            let reply = Reply::Moved {
+                old: at,
+                at: block.at(),
+            };
+            free_framed(heap, core, hand, old);
+            (reply, Some(block))
         }
-        Err(AllocRefusal::NoMemory { excuse }) => Reply::NoMemory {
-            old: Some(old),
-            excuse,
-        },
-        Err(AllocRefusal::TooLarge) => Reply::TooLarge { old: Some(old) },
+        Err(AllocRefusal::NoMemory { excuse }) => {
+            let reply = Reply::NoMemory {
+                old: Some(at),
+                excuse,
+            };
+            (reply, Some(old))
+        }
+        Err(AllocRefusal::TooLarge) => (Reply::TooLarge { old: Some(at) }, Some(old)),
     }
 }

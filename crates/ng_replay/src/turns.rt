@@ -1,79 +1,166 @@
-ghost use Rattle.std.specs.Prelude.{◌≡◌, ◌+◌, ◌*◌, ◌<◌, ◌≤◌, [], length, vec_capacity};
+ghost use Rattle.std.specs.Prelude.{◌≡◌, ◌+◌, ◌<◌, ◌≤◌, ◌++◌, ℕ, [], length, Some, vec_capacity};
+ghost use Rattle.ng_group.specs.Steps.{GoesOn};
+ghost use Rattle.ng_heap.specs.Keeps.{KeepsFrames};
 ghost use Rattle.ng_plan.specs.Sound.{IsSound};
-ghost use Rattle.ng_terms.specs.Accounts.{IsMostBound};
-ghost use Rattle.ng_terms.specs.Calls.{Fits, op_count};
-ghost use Rattle.ng_replay.specs.Books.{AreBooks};
+ghost use Rattle.ng_replay.specs.Books.{AreAllFramed, AreBooks, rooms_for};
 ghost use Rattle.ng_replay.specs.Room.{HasRoom, HaveRoom};
-ghost use Rattle.ng_replay.specs.Serial.{AreServed, HasSpare, KeepsMostBound, replies_in};
-ghost use Rattle.ng_replay.specs.Serving.{plain};
+ghost use Rattle.ng_replay.specs.Serial.{AreHeld, AreInHand, AreServed, IsNumberIn, IsVacant, KeepsBalance, KeepsMostBound, blocks_in, handed_after, handed_in, handed_without, held_in, places_of, replies_in, row_after, source_with};
+ghost use Rattle.ng_replay.specs.Serving.{MostFor, plain};
+ghost use Rattle.ng_space.specs.Callers.{fresh_callers};
+ghost use Rattle.ng_space.specs.Closings.{AreAll, IsEven};
+ghost use Rattle.ng_terms.specs.Accounts.{IsMostBound};
+ghost use Rattle.ng_terms.specs.Calls.{Fits, FitsOp, calls_of, handed_as, origin_of, size_of};
+ghost use Rattle.ng_terms.specs.declared.plan.Origin.TheVariants.{Own, Claim};
 
-use crate::heap::SequentialHeap;
 use crate::op::do_op;
-use crate::room::Room;
-use crate::source::{hand_off, source_of};
-use ng_terms::{Items, Plan, Reply};
+use crate::room::{Room, end_parcels};
+use crate::source::{hand_off, take_source};
+use ng_group::Core;
+use ng_heap::{Heap, Parcel};
+use ng_mapper::Mapper;
+use ng_policy::Rules;
+use ng_space::{Block, Hand, Name};
+use ng_terms::{Items, Op, Plan, Reply};
 
-/// Does the ops of a plan in the order of its turns, each log under its number, from 1. It takes
-/// no memory.
-pub fn serial<H: SequentialHeap>(heap: &mut H, plan: &Plan, room: Room) -> Vec<Items<Reply>>
+/// Does the ops of a plan in the order of its turns, each by its log's hand. A block that is still live at the end stays in
+/// the hand of its log. It takes no memory.
+pub fn serial<N: Name, M: Mapper, P: Rules>(
+    heap: &Heap<N>,
+    core: &mut Core<N, M, P>,
+    hands: &mut Vec<Hand<N>>,
+    plan: &Plan,
+    room: Room<N>,
+) -> Vec<Items<Reply>>
     requires sound { IsSound plan.now }
-    requires few { length plan.now.logs ≤ 16 }
-    requires fresh { H.history heap.old ≡ [] }
-    requires spare { 2 * op_count plan.now.logs ≤ H.spare heap.old }
+    requires hands { hands.old.items ≡ fresh_callers 1 (rooms_for plan.now) }
+    requires next { core.old.seat.desk.next ≡ 1 + length plan.now.logs }
     requires room { HasRoom room plan.now }
 
     ensures fits { Fits plan.now plain result.items }
-    ensures history { AreBooks plan.now result.items (H.history heap.new) }
-    ensures most { IsMostBound plan.now plain (H.counts heap.old).most (H.counts heap.new).most }
-    ensures setting { H.setting heap.new ≡ H.setting heap.old }
+    ensures books { AreBooks plan.now result.items hands.new.items }
+    ensures framed { AreAllFramed hands.new.items }
+    ensures all { AreAll core.new.seat hands.new.items }
+    ensures even { IsEven hands.new.items }
+    ensures most { IsMostBound plan.now plain (M.refused core.old.mapper).most (M.refused core.new.mapper).most }
 {
     let Room {
         mut rows,
+        mut blocks,
         replies,
-        mut handed,
+        mut parcels,
     } = room;
-    let handed = handed.as_mut_slice();
     for turn in 0..plan.order.len() {
-        serve(heap, plan, turn, &mut rows, handed);
+        serve(
+            heap,
+            core,
+            hands,
+            plan,
+            turn,
+            &mut rows,
+            &mut blocks,
+            parcels.as_mut_slice(),
+        );
     }
+    leave_blocks(hands, blocks);
+    end_parcels(parcels);
     items_of(rows, replies)
 }
 
 /// Does the op whose turn it is.
-fn serve<H: SequentialHeap>(
-    heap: &mut H,
+fn serve<N: Name, M: Mapper, P: Rules>(
+    heap: &Heap<N>,
+    core: &mut Core<N, M, P>,
+    hands: &mut Vec<Hand<N>>,
     plan: &Plan,
     turn: usize,
     rows: &mut Vec<Vec<Reply>>,
-    handed: &mut [Option<u64>],
+    blocks: &mut Vec<Vec<Option<Block<N>>>>,
+    parcels: &mut [Option<Parcel<N>>],
 )
     requires sound { IsSound plan.now }
-    requires few { length plan.now.logs ≤ 16 }
     requires turn { turn < length plan.now.order }
     requires room { HaveRoom plan.now.logs rows.old.items }
-    requires spare { HasSpare plan.now.logs (replies_in rows.old.items) (H.spare heap.old) }
-    requires served { AreServed plan.now turn (replies_in rows.old.items) handed.old
-        (H.history heap.old) }
+    requires room_for_blocks { HaveRoom plan.now.logs blocks.old.items }
+    requires served { AreServed plan.now turn (replies_in rows.old.items) (held_in (blocks_in blocks.old.items)) (handed_in parcels.old) }
+    requires hands { AreInHand plan.now (replies_in rows.old.items) (blocks_in blocks.old.items) parcels.old hands.old.items }
 
     ensures room { HaveRoom plan.now.logs rows.new.items }
-    ensures spare { HasSpare plan.now.logs (replies_in rows.new.items) (H.spare heap.new) }
-    ensures served { AreServed plan.now (turn + 1) (replies_in rows.new.items) handed.new
-        (H.history heap.new) }
-    ensures most { KeepsMostBound plan.now (H.counts heap.old).most (H.counts heap.new).most }
-    ensures setting { H.setting heap.new ≡ H.setting heap.old }
+    ensures room_for_blocks { HaveRoom plan.now.logs blocks.new.items }
+    ensures served { AreServed plan.now (turn + 1) (replies_in rows.new.items) (held_in (blocks_in blocks.new.items)) (handed_in parcels.new) }
+    ensures hands { AreInHand plan.now (replies_in rows.new.items) (blocks_in blocks.new.items) parcels.new hands.new.items }
+    ensures most { KeepsMostBound plan.now (M.refused core.old.mapper).most (M.refused core.new.mapper).most }
+    ensures next { core.new.seat.desk.next ≡ core.old.seat.desk.next }
 {
-    let log = plan.order.as_slice()[turn];
-    let Some(ops) = plan.logs.as_slice().get(log as usize) else {
+    let log = plan.order.as_slice()[turn] as usize;
+    let Some(ops) = plan.logs.as_slice().get(log) else {
         // A turn of no log does nothing.
         return;
     };
-    let row = &mut rows[log as usize];
+    let row = &mut rows[log];
     let replies = row.as_slice();
     let op = &ops.as_slice()[replies.len()];
-    let source = source_of(op, replies, handed);
-    let reply = do_op(heap, log + 1, op, source);
-    hand_off(op, &reply, handed);
+    let reply = serve_op(heap, core, &mut hands[log], op, &mut blocks[log], parcels);
     row.push_reserved(reply);
+}
+
+/// Does an op of a log by the log's hand. The block that stands for it goes to the log's others, or off under its number.
+fn serve_op<N: Name, M: Mapper, P: Rules>(
+    heap: &Heap<N>,
+    core: &mut Core<N, M, P>,
+    hand: &mut Hand<N>,
+    op: &Op,
+    row: &mut Vec<Option<Block<N>>>,
+    parcels: &mut [Option<Parcel<N>>],
+) -> Reply
+    requires earlier { (maker : ℕ) → origin_of op.now ≡ Own maker → maker < length row.old.items }
+    requires claimed { (number : ℕ) → origin_of op.now ≡ Claim number → IsNumberIn parcels.old number }
+    requires given { (number : ℕ) → handed_as op.now ≡ Some number → IsNumberIn parcels.old number }
+    requires vacant { IsVacant (handed_as op.now) (handed_without (origin_of op.now) (handed_in parcels.old)) }
+    requires room { length row.old.items < vec_capacity row.old }
+    requires spare { 2 ≤ hand.old.spare }
+    requires held { AreHeld hand.old row.old.items }
+
+    ensures fits { FitsOp plain (source_with (places_of row.old.items) (handed_in parcels.old) (origin_of op.now)) op.now result }
+    ensures row { places_of row.new.items ≡ row_after op.now result (places_of row.old.items) }
+    ensures handed { handed_in parcels.new ≡ handed_after op.now result (handed_in parcels.old) }
+    ensures held { AreHeld hand.new row.new.items }
+    ensures room { vec_capacity row.new ≡ vec_capacity row.old }
+    ensures most { MostFor (M.refused core.old.mapper).most (M.refused core.new.mapper).most (size_of op.now) }
+
+    ensures entries { hand.new.entries ≡ hand.old.entries ++ calls_of plain op.now result }
+    ensures spare { hand.old.spare ≤ hand.new.spare + 2 }
+    ensures balance { KeepsBalance hand.old hand.new parcels.old parcels.new }
+    ensures frames { KeepsFrames hand.old hand.new }
+    ensures on { GoesOn core.old.seat core.new.seat }
+{
+    let source = take_source(heap, hand, op, row.as_mut_slice(), parcels);
+    let (reply, block) = do_op(heap, core, hand, op, source);
+    let block = hand_off(heap, hand, op, block, parcels);
+    row.push_reserved(block);
+    reply
+}
+
+/// Leaves the blocks of each log in the log's hand.
+fn leave_blocks<N: Name>(hands: &mut Vec<Hand<N>>, mut blocks: Vec<Vec<Option<Block<N>>>>)
+    requires hands { length blocks.items ≤ length hands.old.items }
+    ensures { hands.new.items ≡ hands.old.items }
+{
+    while let Some(row) = blocks.pop() {
+        leave_row(&mut hands[blocks.len()], row);
+    }
+    blocks.destroy_empty();
+}
+
+/// Leaves the blocks of a row in a hand.
+fn leave_row<N: Name>(hand: &mut Hand<N>, mut row: Vec<Option<Block<N>>>)
+    ensures { hand.new ≡ hand.old }
+{
+    while let Some(place) = row.pop() {
+        if let Some(block) = place {
+            hand.leave(block);
+        }
+    }
+    row.destroy_empty();
 }
 
 /// The rows, in the room for them.

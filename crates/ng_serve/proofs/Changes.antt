@@ -12,7 +12,7 @@ use Rattle.ng_view.specs.declared.view.View.{View}
 use Rattle.ng_lock_moves.specs.Fetches.{HasGroup, PushesFreed, StocksAvail}
 use Rattle.ng_mask.proofs.Motion.{SplitsInto}
 use Rattle.ng_mask.specs.Fetches.{Stocks, Takes}
-use Rattle.ng_serve.specs.Reads.{Reads}
+use Rattle.ng_serve.specs.Reads.{AreAt, Reads}
 use Rattle.ng_serve.specs.Takes.{ChangesMasks, with_masks}
 use Rattle.ng_serve.proofs.Readings.{among_if}
 
@@ -126,10 +126,16 @@ stocked_held v w meta bits none some = ⊎_elim {C = IsLetGo v w meta bits}
     (cases_lt 0 bits)
 
 pub changes_pushed : (v w : View) (meta bits n : ℕ) → PushesFreed v meta bits n w → ChangesMasks v meta w
-changes_pushed v w meta bits n pushes = subst (ChangesMasks v meta) (sym pushes.view) (record {
+changes_pushed v w meta bits n pushes = record {
   words = (meta + 28, n) ∷ [];
-  view = refl;
-  zero_avail = λ m ne s. s;
-  zero_freed = λ m ne s. others_keep meta m v.desk.zero_freed ne s;
-  set_freed = λ m i ne s. s;
-})
+  view = subst (λ (x : View). x ≡ with_masks v x ((meta + 28, n) ∷ [])) (sym pushes.view) refl;
+  zero_avail = λ m ne s. subst (λ (x : View). Among m x.desk.zero_avail) (sym pushes.view) s;
+  zero_freed = λ m ne s. subst (λ (x : View). Among m x.desk.zero_freed) (sym pushes.view) (others_keep meta m v.desk.zero_freed ne s);
+  set_freed = λ m i ne s. subst (λ (x : View). Among {A = ℕ × ℕ} (m, i) x.desk.set_freed) (sym pushes.view) s;
+}
+
+-- of which freed alone was read
+pub pushed_freed : (v w : View) (meta bits n : ℕ) (pushes : PushesFreed v meta bits n w) → AreAt (meta + 28) (changes_pushed v w meta bits n pushes).words
+unfolding changes_pushed
+pushed_freed v w meta bits n pushes word (inl e) = ap (λ (p : ℕ × ℕ). p.0) e
+pushed_freed v w meta bits n pushes word (inr s) = elim s [ ]

@@ -1,6 +1,7 @@
 -- Slots of the seat that go into the masks of their group.
-use Rattle.std.proofs.Common.{◌≡◌, ℕ, ◌*◌, ◌%◌, ◌^◌, ◌<◌, ◌≤◌, List, ◌++◌, refl, sym, ap, ◌∙◌, subst, ⊎_elim, arith}
+use Rattle.std.proofs.Common.{◌≡◌, ℕ, ◌*◌, ◌%◌, ◌^◌, ◌<◌, ◌≤◌, List, [], ◌++◌, refl, sym, ap, ◌∙◌, subst, ⊎_elim, arith}
 use Rattle.std.proofs.lemmas.Bool.{cases_lt}
+use Rattle.std.proofs.lemmas.List.{append-nil}
 use Rattle.std.proofs.lemmas.Nat.{one_shl, pow_pos}
 use Rattle.ng_view.specs.Lists.{Among, without}
 use Rattle.ng_view.specs.LockSteps.{AreOut, bits_of, let_go}
@@ -11,7 +12,7 @@ use Rattle.ng_lock_moves.specs.Fetches.{MayPutBack, PushesFreed}
 use Rattle.ng_mask.specs.Fetches.{MayStock, Stocks, slots_of}
 use Rattle.ng_mask.proofs.Motion.{bits_of-pow, others_are_left, part_is_out}
 use Rattle.ng_serve.specs.Takes.{ChangesMasks, HasBare, HasCaptured, IsServed, PutsBits, PutsCaptured, PutsSlot}
-use Rattle.ng_serve.proofs.Changes.{all_of, changes_groups, changes_listed, changes_none, changes_pushed, changes_stocked, changes_then, stocked_held}
+use Rattle.ng_serve.proofs.Changes.{all_of, changes_groups, changes_listed, changes_pushed, changes_stocked, changes_then, pushed_freed, stocked_held}
 
 -- ---- bits are set, or there are none
 pub puts_bits : (v w : View) (meta bits n : ℕ) → PushesFreed v meta bits n w → PutsBits v meta bits w
@@ -19,10 +20,22 @@ puts_bits v w meta bits n pushes = record {
   changes = changes_pushed v w meta bits n pushes;
   avail = ap (λ (x : View). x.desk.zero_avail) pushes.view;
   held = ap (λ (x : View). x.held) pushes.view;
+  freed = pushed_freed v w meta bits n pushes;
 }
 
 pub puts_none : (v : View) (meta bits : ℕ) → bits ≡ 0 → PutsBits v meta bits v
-puts_none v meta bits none = subst (λ n. PutsBits v meta n v) (sym none) (record { changes = changes_none v v meta refl; avail = refl; held = refl })
+puts_none v meta bits none = subst (λ n. PutsBits v meta n v) (sym none) (record {
+  changes = record {
+    words = [];
+    view = ap (λ (l : List (ℕ × ℕ)). record v { readings = l }) (sym (append-nil v.readings));
+    zero_avail = λ m ne s. s;
+    zero_freed = λ m ne s. s;
+    set_freed = λ m i ne s. s;
+  };
+  avail = refl;
+  held = refl;
+  freed = λ word s. elim s [ ];
+})
 
 pub some_bits : (bits : ℕ) → (bits ≡ 0 → ⊥) → 0 < bits
 some_bits bits some = ⊎_elim (λ (more : 0 < bits). more) (λ (few : bits ≤ 0). absurd (some (omega arith))) (cases_lt 0 bits)
@@ -52,6 +65,7 @@ puts_slot v w meta index slot puts = record {
   held = puts.held
       ∙ ap (λ n. let_go meta (bits_of n) v.held) (is_pow index slot.few)
       ∙ ap (λ (is : List ℕ). let_go meta is v.held) (bits_of-pow index slot.few);
+  freed = puts.freed;
 }
 
 -- ---- all slots of a mask, in front of others

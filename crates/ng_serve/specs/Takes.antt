@@ -1,5 +1,5 @@
 -- Slots of a group that come out of its freed mask, and go into its masks again.
-use Rattle.std.specs.Prelude.{◌≡◌, ◌≢◌, ℕ, ◌<◌, ◌≤◌, List, ◌∷◌, ◌++◌, Some, None}
+use Rattle.std.specs.Prelude.{◌≡◌, ◌≢◌, ℕ, ◌+◌, ◌<◌, ◌≤◌, List, ◌∷◌, ◌++◌, Some, None}
 use Rattle.ng_view.specs.Lists.{Among, find, without}
 use Rattle.ng_view.specs.LockSteps.{bits_of, let_go}
 use Rattle.ng_view.specs.Slots.{IsPlain}
@@ -8,7 +8,7 @@ use Rattle.ng_view.specs.declared.view.Group.{Group}
 use Rattle.ng_view.specs.declared.view.Held.{Held}
 use Rattle.ng_view.specs.declared.view.View.{View}
 use Rattle.ng_mask.specs.Fetches.{OfGroup, slots_of}
-use Rattle.ng_serve.specs.Reads.{with_notes}
+use Rattle.ng_serve.specs.Reads.{AreAt, with_notes}
 
 -- the view with other slots, other notes of masks, and these readings more
 abbrev pub with_masks : View → View → List (ℕ × ℕ) → View
@@ -41,11 +41,13 @@ pub record StocksFreed (v : View) (meta : ℕ) (w : View) : Type 0 where
   pub changes : ChangesMasks v meta w
   pub held : w.held ≡ v.held
 
--- the slots of these bits, if there are any, are out of the seat; of avail nothing changes
+-- the slots of these bits, if there are any, are out of the seat; of avail nothing changes, and only the freed mask was
+-- read
 pub record PutsBits (v : View) (meta bits : ℕ) (w : View) : Type 0 where
   pub changes : ChangesMasks v meta w
   pub avail : w.desk.zero_avail ≡ v.desk.zero_avail
   pub held : w.held ≡ let_go meta (bits_of bits) v.held
+  pub freed : AreAt (meta + 28) changes.words
 
 -- a live group of that meta may have slots in its masks: its slots have the whole size of a class
 -- below 48, and it is listed
@@ -63,11 +65,12 @@ pub record HasBare (held : List Held) (meta index : ℕ) : Type 0 where
   pub found : find meta index held ≡ Some slot
   pub bare : slot.block ≡ None
 
--- the slot is out of the seat; of avail nothing changes
+-- the slot is out of the seat; of avail nothing changes, and only the freed mask was read
 pub record PutsSlot (v : View) (meta index : ℕ) (w : View) : Type 0 where
   pub changes : ChangesMasks v meta w
   pub avail : w.desk.zero_avail ≡ v.desk.zero_avail
   pub held : w.held ≡ without meta index v.held
+  pub freed : AreAt (meta + 28) changes.words
 
 -- in front of other slots, one of which is this, stand those of two masks that were captured
 pub record HasCaptured (v : View) (meta avail freed index : ℕ) : Type 0 where

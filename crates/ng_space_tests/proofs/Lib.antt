@@ -7,3 +7,4 @@ pub mod Carrying
 pub mod Ending
 pub mod Race
 pub mod Writing
+pub mod Bare

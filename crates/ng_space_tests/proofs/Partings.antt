@@ -1,7 +1,6 @@
 -- A slot of the trial's group comes back to the lock's seat.
-use Rattle.std.proofs.Common.{◌≡◌, ℕ, zero, suc, ◌+◌, ◌*◌, ◌%◌, ◌^◌, ◌≤◌, eqb, cond, Bool, true, false, List, [], ◌∷◌, ◌++◌, map, refl, sym, ap, ◌∙◌, subst, ⊎_elim, inl, arith}
-use Rattle.std.specs.Int.{bit_at, trailing_zeros, w32}
-use Rattle.std.proofs.lemmas.Nat.Bits.{bit_at-trailing_zeros, bit_at_above}
+use Rattle.std.proofs.Common.{◌≡◌, ℕ, zero, suc, ◌+◌, ◌*◌, ◌≤◌, eqb, cond, Bool, true, false, List, [], ◌∷◌, ◌++◌, map, refl, sym, ap, ◌∙◌, subst, ⊎_elim, inl, arith}
+use Rattle.std.specs.Int.{bit_at}
 use Rattle.std.specs.Prelude.{◌&&◌, Some}
 use Rattle.ng_geometry.proofs.Lists.{find_among}
 use Rattle.ng_view.specs.Conditions.{IsBlanked, IsSettled, IsUnborn}
@@ -14,6 +13,7 @@ use Rattle.ng_view.specs.declared.view.Run.{Run}
 use Rattle.ng_view.specs.declared.view.View.{View}
 use Rattle.ng_lock_moves.specs.Fetches.{ClearsFreed, EmptiesAvail, HasGroup}
 use Rattle.ng_lock_moves.specs.Groups.{HasAllSlots}
+use Rattle.ng_mask.specs.Fetches.{Captures}
 use Rattle.ng_space.specs.Callers.{Caller}
 use Rattle.ng_space.specs.Passed.{with_slot}
 use Rattle.ng_space.specs.Tokens.{HasSlot, Token}
@@ -101,6 +101,21 @@ module _ (v w : View) (stands : Stands v page_runs (pair_group ∷ [])) (bits n 
   pub taken_both : HasBoth v → HasBoth w
   taken_both both = subst HasBoth (sym taken) (has-fetched 0 pair_group (select (λ i. eqb (bit_at n i) 1 && eqb (bit_at bits i) 1) 32) v.held both.0, has-fetched 1 pair_group (select (λ i. eqb (bit_at n i) 1 && eqb (bit_at bits i) 1) 32) v.held both.1)
 
+-- both masks were captured
+module _ (v w : View) (stands : Stands v page_runs (pair_group ∷ [])) (avail freed : ℕ) (told : Captures v 4120 avail freed w) where
+  empty : Stands told.between page_runs (pair_group ∷ [])
+  empty = emptied_stands v told.between stands told.word told.empties
+
+  pub captured_stands : Stands w page_runs (pair_group ∷ [])
+  captured_stands = taken_stands told.between w empty _ told.takes.freed told.takes.clears
+
+  pub captured_metas : AreMetasBlank v 1 → AreMetasBlank w 1
+  captured_metas blank = taken_metas told.between w empty _ told.takes.freed told.takes.clears (emptied_metas v told.between stands told.word told.empties blank)
+
+  pub captured_all : HasBoth v → HasAllSlots w 4120
+  captured_all both = all_slots w captured_stands
+      (taken_both told.between w empty _ told.takes.freed told.takes.clears (emptied_both v told.between stands told.word told.empties both))
+
 -- ---- the close
 pub settled : (v : View) → Stands v (area_run ∷ []) [] → IsSettled v
 settled v s r t = ⊎_elim (λ (e : r ≡ area_run). inl (ap (λ (x : Run). x.area) e)) (λ (q : ⊥). absurd q) (subst (Among r) s.runs t)
@@ -112,12 +127,3 @@ blanked v s blank m b al i u lt bl = ⊎_elim
     let q : 4120 + 40 * i.number + b ≡ m + b = omega arith in
     subst (λ n. Rattle.ng_view.specs.Conditions.Sees v n 0) q (blank i.number b (omega arith) i.below lt bl))
     (λ (q : ⊥). absurd q) (subst (Among i.run) s.runs i.noted)
-
--- ---- the lowest bit of the mask 2
-one_bit : (k : ℕ) → bit_at 2 k ≡ 1 → k ≡ 1
-one_bit zero e = absurd (let z : 0 ≡ 1 = e in omega arith)
-one_bit (suc zero) e = refl
-one_bit (suc (suc i)) e = absurd (let a = bit_at_above 2 2 (suc (suc i)) (omega arith) (omega arith) in let x : ℕ = bit_at 2 (suc (suc i)) in let a' : x ≡ 0 = a in let e' : x ≡ 1 = e in omega (arith, a', e'))
-
-pub lowest_of_two : trailing_zeros w32 (103079215106 % 2 ^ 32) ≡ 1
-lowest_of_two = one_bit _ (bit_at-trailing_zeros w32 2 (omega arith) (omega arith)).1

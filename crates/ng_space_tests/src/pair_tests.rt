@@ -5,16 +5,18 @@ ghost use Rattle.ng_view.specs.Steps.{in_motion};
 ghost use Rattle.ng_lock_moves.specs.Groups.{HasAllSlots};
 ghost use Rattle.ng_space.specs.Blocks.{OfSlot, Serves};
 ghost use Rattle.ng_space.specs.Tests.{HasEntered};
-ghost use Rattle.ng_space.specs.Tokens.{HasSlot};
+ghost use Rattle.ng_space.specs.Tokens.{HasSlot, Token};
 ghost use Rattle.ng_space_tests.specs.Trials.{AreMetasBlank, Stands, page_group, page_runs, trial_start};
 
 use crate::page::{AREA, BASE, META, build_group, end_group, make_area, start};
-use ng_meta::avail_word;
+use ng_mask::{Needs, Pop, Push, capture, pop, push};
 use ng_space::{Blank, Hand, LockSeat, Name, Slot, Space};
 use std::alloc::Global;
 use std::marker::Brand;
 use std::process::Abort;
 use std::test::Fail;
+
+const CLASS: u32 = 23;
 
 /// The slot that the hand pops, and its end.
 const SLOT: u64 = 0x2800;
@@ -36,7 +38,7 @@ fn live_once<N: Name, R: Abort>(rt: &R, alloc: Global, blank: Blank) -> Result<(
 {
     let (space, mut lock, mut hands) = Space::<N>::open(alloc, blank)?;
     make_area(&space, &mut lock);
-    build_group(&space, &mut lock, 23, 1, 1 << 1);
+    build_group(&space, &mut lock, CLASS, 1, 1 << 1);
     let hand = &mut hands[0];
     pass_back(rt, &space, &mut lock, hand);
     end_group(&space, &mut lock);
@@ -48,8 +50,8 @@ fn live_once<N: Name, R: Abort>(rt: &R, alloc: Global, blank: Blank) -> Result<(
     Ok(())
 }
 
-// The hand pops the slot in the avail mask, has a block there, fails to push the slot as the first, and
-// passes it to the lock's seat, which finds both masks empty.
+// The hand pops the slot in the avail mask, has a block there, finds no other slot, fails to push the slot as the
+// first, and passes it to the lock's seat, which finds both masks empty.
 fn pass_back<N: Name, R: Abort>(
     rt: &R,
     space: &Space<N>,
@@ -66,8 +68,9 @@ fn pass_back<N: Name, R: Abort>(
     ensures slots { HasAllSlots seat.new 4120 }
     ensures hand { HasEntered hand.old hand.new }
 {
-    let Ok(slot) = space.pop_step(hand, META, avail_word(23, 1 << 1)) else {
-        panic!(rt; "the slot isn't in the mask")
+    let slot = match pop(space, hand, META, CLASS) {
+        Pop::Won(slot) => slot,
+        Pop::Bare | Pop::Other { tag: _ } | Pop::Lost => panic!(rt; "the slot isn't in the mask"),
     };
     assert_eq!(rt; slot.index(), 1);
     assert_eq!(rt; slot.start(), SLOT);
@@ -75,13 +78,29 @@ fn pass_back<N: Name, R: Abort>(
     assert_eq!(rt; slot.room(), END - SLOT + 4);
     let slot = use_slot(rt, space, hand, slot);
     assert_eq!(rt; hand.entries().len(), 2);
-    let Err((slot, found)) = space.push_step(hand, slot, 1) else {
-        panic!(rt; "a mask of 0 was found to be 1")
+    find_bare(rt, space, hand);
+    let slot = match push(space, hand, slot) {
+        Push::Left(slot, needs) => {
+            assert_eq!(rt; needs, Needs::First);
+            slot
+        }
+        Push::Done => panic!(rt; "a slot came first into a freed mask"),
     };
-    assert_eq!(rt; found, 0);
     space.slot_to_seat(hand, seat, slot);
-    assert_eq!(rt; space.empty_avail(seat, META), 0);
-    assert_eq!(rt; space.clear_freed(seat, META, u32::MAX), 0);
+    assert_eq!(rt; capture(space, seat, META), (0, 0));
+}
+
+// A pop finds the avail mask 0, and changes no slot of the hand.
+fn find_bare<N: Name, R: Abort>(rt: &R, space: &Space<N>, hand: &mut Hand<N>)
+    requires start { N.start ≡ trial_start }
+    ensures slots { (slot : Token) → HasSlot hand.old slot → HasSlot hand.new slot }
+    ensures hand { HasEntered hand.old hand.new }
+{
+    match pop(space, hand, META, CLASS) {
+        Pop::Bare => {}
+        Pop::Won(_slot) => panic!(rt; "the group has another slot"),
+        Pop::Other { tag: _ } | Pop::Lost => panic!(rt; "the avail mask isn't that of the group"),
+    }
 }
 
 // A block of all but 8 bytes of the slot is given, written in and ended. Its trailer says how many are

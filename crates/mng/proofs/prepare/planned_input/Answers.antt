@@ -1,4 +1,3 @@
-use Rattle.std.proofs.Common.{◌≡◌}
 use Rattle.mng.proofs.InputLemmas.{few-logs, few-ops}
 use Rattle.mng.proofs.prepare.planned_input.Goals as goal
 

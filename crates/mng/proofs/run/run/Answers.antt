@@ -1,7 +1,8 @@
-use Rattle.std.proofs.Common.{◌≡◌}
-use Rattle.ng_replay.specs.Serving.{plain}
-use Rattle.ng_report.proofs.CallerLemmas.{HasReplies-from_Fits}
+use Rattle.mng.proofs.OpenLemmas.{all_opened, even_opened}
 use Rattle.mng.proofs.run.run.Goals as goal
 
-pub render-requires-clause-answered : goal.render-requires-clause-answered
-render-requires-clause-answered g c = rw c.as_slice.ensures.value (HasReplies-from_Fits _ plain _ c.serve-replies.ensures.account.account.fits)
+pub close-image-requires-clause-all : goal.close-image-requires-clause-all
+close-image-requires-clause-all g c = all_opened g.N.Name.start c.args.fresh.blank.rooms _ _ c.in-Ok.ensures.seat c.in-Ok.ensures.hands
+
+pub close-image-requires-clause-parcels : goal.close-image-requires-clause-parcels
+close-image-requires-clause-parcels g c = even_opened c.args.fresh.blank.rooms _ c.in-Ok.ensures.hands

@@ -1,4 +1,4 @@
-use Rattle.std.proofs.Common.{◌≡◌, ◌∙◌, ap}
+use Rattle.std.proofs.Common.{◌∙◌, ap}
 use Rattle.std.specs.Prelude.{Err}
 use Rattle.mng.proofs.CompleteLemmas.{early-complete}
 use Rattle.mng.proofs.tool.tool.Goals as goal

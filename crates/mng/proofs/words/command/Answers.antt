@@ -1,15 +1,9 @@
-use Rattle.std.proofs.Common.{◌≡◌, ◌∙◌, ◌∷◌, [], ap, codes, List, ℕ, rules, string_bytes}
-use Rattle.mng.proofs.WordLemmas.{texts_of-one, texts_of-two}
+use Rattle.std.proofs.Common.{◌∙◌, sym}
+use Rattle.mng.proofs.WordLemmas.{ShowsCalls-from_Some, no_language}
 use Rattle.mng.proofs.words.command.Goals as goal
 
-pub returns-in-len1-clause-some : goal.returns-in-len1-clause-some
-returns-in-len1-clause-some c =
-    let name : string_bytes c.name-item.result ≡ codes "serial" = search rules in
-    texts_of-one c.args.words.now c.name-item.result c.in-len1.len_at_least c.in-len1.len_below c.name-item.is ∙ ap (λ (text : List ℕ). text ∷ []) name
+pub returns-in_err-given-clause-none : goal.returns-in_err-given-clause-none
+returns-in_err-given-clause-none c = rw c.from_residual.ensures (no_language _ (sym c.in_err-given.was ∙ c.given.ensures))
 
-pub returns-in-len2-clause-some : goal.returns-in-len2-clause-some
-returns-in-len2-clause-some c =
-    let name : string_bytes c.name-item-then-words-lt3.result ≡ codes "serial" = search rules in
-    let option : string_bytes c.option-item.result ≡ codes "--calls" = search rules in
-    texts_of-two c.args.words.now c.name-item-then-words-lt3.result c.option-item.result c.in-len2.len_at_least c.in-len2.len_below c.name-item-then-words-lt3.is c.option-item.is
-    ∙ ap (λ (text : List ℕ). text ∷ string_bytes c.option-item.result ∷ []) name ∙ ap (λ (text : List ℕ). codes "serial" ∷ text ∷ []) option
+pub returns-clause-some : goal.returns-clause-some
+returns-clause-some c = ShowsCalls-from_Some _ _ (sym c.in_ok-given.was ∙ c.given.ensures)

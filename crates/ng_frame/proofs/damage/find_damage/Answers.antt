@@ -3,6 +3,7 @@ use Rattle.ng_header.specs.Bytes.{byte_of}
 use Rattle.ng_header.proofs.TailLemmas.{nominal_in-trailer}
 use Rattle.ng_space.proofs.Keeping.{loaded_framed}
 use Rattle.ng_frame.specs.Inspects.{mark_at}
+use Rattle.ng_frame.proofs.Framed.{all_framed}
 use Rattle.ng_frame.proofs.Keeps.{all_then, loaded_all}
 use Rattle.ng_frame.proofs.Lengths.{err_ok, first_clean}
 use Rattle.ng_frame.proofs.damage.find_damage.Goals as goal
@@ -29,3 +30,12 @@ returns-in-Err-clause-kept g c = all_then c.args.hand.now.view c.read_words-word
 
 pub returns-in-Err-clause-frames : goal.returns-in-Err-clause-frames
 returns-in-Err-clause-frames g c = λ other f. loaded_framed c.read_words-words.new.hand c.load.new.hand _ c.load.result other c.load.ensures.view c.load.ensures.number (c.read_words-words.ensures.frames other f)
+
+pub returns-in_default-clause-each : goal.returns-in_default-clause-each
+returns-in_default-clause-each g c = all_framed c.args.hand.now.view c.read_words-words.new.hand.view c.read_words-words.ensures.kept
+
+pub returns-in-Ok-nominal-clause-each : goal.returns-in-Ok-nominal-clause-each
+returns-in-Ok-nominal-clause-each g c = all_framed c.args.hand.now.view c.load.new.hand.view (returns-in-Ok-nominal-clause-kept g c)
+
+pub returns-in-Err-clause-each : goal.returns-in-Err-clause-each
+returns-in-Err-clause-each g c = all_framed c.args.hand.now.view c.load.new.hand.view (returns-in-Err-clause-kept g c)

@@ -1,8 +1,9 @@
-use Rattle.std.proofs.Common.{◌∙◌, ◌≡◌, ℕ, ◌+◌, ◌-◌, ◌*◌, sym, ap, subst}
+use Rattle.std.proofs.Common.{◌∙◌, ◌≡◌, ℕ, ◌+◌, ◌-◌, ◌*◌, ◌<◌, ◌≤◌, sym, ap, subst}
 use Rattle.ng_view.specs.Frame.{IsTrailer}
 use Rattle.ng_space.specs.Blocks.{HasFramed, OfSlot}
 use Rattle.ng_frame.specs.Puts.{Puts}
-use Rattle.ng_frame.proofs.Frames.{given_others, puts, ready}
+use Rattle.ng_frame.proofs.Framed.{framed_at, others_framed}
+use Rattle.ng_frame.proofs.Frames.{given_others, given_still, puts, ready}
 use Rattle.ng_frame.proofs.Keeps.{others_then}
 use Rattle.ng_frame.specs.Keeps.{KeepsOthers}
 use Rattle.ng_frame.proofs.Tokens.{block_kept, framed_kept, slot_kept}
@@ -25,6 +26,12 @@ returns-clause-puts g c =
     (puts c.args.hand.now c.cycled_offset-offset.new.hand c.store_mark.new.hand c.store_trailer.new.hand c.give.new.hand c.args.slot o c.args.n _ _ _ c.args.counter (ap (λ s. s + 16 * o) c.start.ensures) offset.whole c.requires.fits offset.cycles c.store_mark.ensures.others c.store_trailer.ensures.others c.give.ensures.view
     (subst (HasFramed c.give.new.hand) c.give.ensures.block c.give.ensures.has))
 
+pub returns-clause-still : goal.returns-clause-still
+returns-clause-still g c =
+    given_still c.args.hand.now.view c.cycled_offset-offset.new.hand.view c.store_mark.new.hand.view c.store_trailer.new.hand.view c.give.new.hand.view c.args.slot
+    (λ a. c.args.slot.start ≤ a) (λ a. a < c.args.slot.start) _ _ _ _ c.cycled_offset-offset.ensures.own c.store_mark.ensures.own c.store_trailer.ensures.own
+    c.give.ensures.view
+
 others : (g : Over) (c : goal.After-give g) → KeepsOthers c.args.slot c.args.hand.now.view c.give.new.hand.view
 others g c =
     let slot = c.args.slot in
@@ -44,3 +51,7 @@ returns-clause-blocks g c = λ other ne has. block_kept c.args.hand.now c.give.n
 
 pub returns-clause-frames : goal.returns-clause-frames
 returns-clause-frames g c = λ other ne has. framed_kept c.args.hand.now c.give.new.hand c.args.slot (number g c) (others g c) other ne has
+
+pub returns-clause-each : goal.returns-clause-each
+returns-clause-each g c = λ framed.
+    others_framed c.args.slot c.args.hand.now.view c.give.new.hand.view (others g c) (framed_at c.give.new.hand _ (subst (HasFramed c.give.new.hand) c.give.ensures.block c.give.ensures.has)) framed

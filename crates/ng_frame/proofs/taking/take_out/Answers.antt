@@ -1,5 +1,7 @@
-use Rattle.std.proofs.Common.{◌∙◌}
+use Rattle.std.proofs.Common.{◌∙◌, subst}
 use Rattle.ng_frame.specs.Keeps.{KeepsOthers}
+use Rattle.ng_space.specs.Tokens.{HasSlot}
+use Rattle.ng_frame.proofs.Framed.{free_at, others_framed}
 use Rattle.ng_frame.proofs.Keeps.{all_others, kills_others, others_then}
 use Rattle.ng_frame.proofs.Tokens.{block_kept, framed_kept, slot_kept}
 use Rattle.ng_frame.proofs.taking.take_out.Given.{Over}
@@ -24,3 +26,7 @@ returns-in-None-clause-frames g c = λ other ne has. framed_kept c.args.hand.now
 
 pub returns-in-Some-clause-frames : goal.returns-in-Some-clause-frames
 returns-in-Some-clause-frames g c = λ other ne f. c.find_damage.ensures.frames other f
+
+pub returns-in-None-clause-each : goal.returns-in-None-clause-each
+returns-in-None-clause-each g c = λ framed.
+    others_framed c.args.block.slot c.args.hand.now.view c.kill.new.hand.view (others g c) (free_at c.kill.new.hand c.args.block.slot (subst (HasSlot c.kill.new.hand) c.kill.ensures.slot c.kill.ensures.has)) framed

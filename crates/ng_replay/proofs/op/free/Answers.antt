@@ -1,5 +1,11 @@
-use Rattle.ng_replay.proofs.CarryLemmas.{Carries-taken}
+use Rattle.std.proofs.Common.{subst}
+use Rattle.ng_replay.specs.Serving.{IsApartFrom}
+use Rattle.ng_replay.proofs.MoveLemmas.{KeepsFrames-same}
 use Rattle.ng_replay.proofs.op.free.Goals as goal
 
-pub returns-in-Some-clause-carries : goal.returns-in-Some-clause-carries
-returns-in-Some-clause-carries g c = rw c.in-Some.is (Carries-taken _ _ _ _ c.free.ensures.taken)
+pub returns-then-eq-clause-frames : goal.returns-then-eq-clause-frames
+returns-then-eq-clause-frames g c = KeepsFrames-same c.args.hand.now c.leave.new.hand c.leave.ensures
+
+pub returns-in-Some-clause-others : goal.returns-in-Some-clause-others
+returns-in-Some-clause-others g c =
+    λ other apart f. c.free_framed.ensures.others.frames other (subst (λ source. IsApartFrom source other) c.in-Some.is apart) f

@@ -1,7 +1,7 @@
 use Rattle.std.proofs.Common.{ℕ, ◌+◌, ◌<◌, IfSome, Option, ap, subst, arith}
 use Rattle.ng_class.specs.Class.{IsLeastClass}
 use Rattle.ng_group.specs.declared.heap_core.Core.TheInside.{Inside}
-use Rattle.ng_group.proofs.ClassForLemmas.{greatest_serves}
+use Rattle.ng_group.proofs.ClassForLemmas.{greatest_serves, looked_same}
 use Rattle.ng_group.proofs.OpeningLemmas.{usage_at}
 use Rattle.ng_group.proofs.heap_core.Core.class_for.Goals as goal
 
@@ -9,6 +9,9 @@ pub returns-then-next-eq-CLASSES-clause-class : goal.returns-then-next-eq-CLASSE
 returns-then-next-eq-CLASSES-clause-class g c =
     let least = subst (λ (answer : Option ℕ). IfSome answer (IsLeastClass c.args.bytes)) c.unwrap-class.ensures c.class_of.ensures.least in
     greatest_serves c.args.self.now c.args.bytes c.unwrap-class.result (omega (arith, c.if-next-eq-CLASSES.true)) least
+
+pub returns-then-next-eq-CLASSES-clause-looked : goal.returns-then-next-eq-CLASSES-clause-looked
+returns-then-next-eq-CLASSES-clause-looked g c = looked_same c.args.self.now
 
 pub coarse-requires-clause-usage : goal.coarse-requires-clause-usage
 coarse-requires-clause-usage g c =

@@ -1,6 +1,6 @@
 use Rattle.std.proofs.Common.{ap, ◌∙◌, arith}
 use Rattle.ng_group.specs.declared.heap_core.Core.TheInside.{Inside}
-use Rattle.ng_group.proofs.ClassForLemmas.{came_at, cells_at, masks_at, next_at, ready_at, rests_at, test_avail, test_freed}
+use Rattle.ng_group.proofs.ClassForLemmas.{came_at, cells_at, masks_at, notes_at, ready_at, rests_at, test_avail, test_freed}
 use Rattle.ng_group.proofs.heap_core.Core.is_ready.Goals as goal
 
 pub overflow_add-first : goal.overflow_add-first
@@ -48,10 +48,10 @@ returns-then-mask_of-ne0-clause-came g c =
     let reads = masks_at g.N.Name.start g.M.Mapper.span g.M.Mapper.runs g.M.Mapper.refused c.args.class c.in-Some.first c.load_seat-avail.result c.load_seat-freed.result (ap (λ (x : Inside g.row.N.Denot g.row.M.Denot g.row.P.Denot). x.works) c.self-inside.view_is) c.self.invariant c.requires.class c.in-Some.ensures.first c.load_seat-avail.ensures.view c.load_seat-freed.ensures.view in
     came_at ((ap (λ (x : Inside g.row.N.Denot g.row.M.Denot g.row.P.Denot). x.works) c.self-inside.view_is) ∙ c.self.view_is) reads
 
-pub returns-then-mask_of-ne0-clause-next : goal.returns-then-mask_of-ne0-clause-next
-returns-then-mask_of-ne0-clause-next g c =
+pub returns-then-mask_of-ne0-clause-notes : goal.returns-then-mask_of-ne0-clause-notes
+returns-then-mask_of-ne0-clause-notes g c =
     let reads = masks_at g.N.Name.start g.M.Mapper.span g.M.Mapper.runs g.M.Mapper.refused c.args.class c.in-Some.first c.load_seat-avail.result c.load_seat-freed.result (ap (λ (x : Inside g.row.N.Denot g.row.M.Denot g.row.P.Denot). x.works) c.self-inside.view_is) c.self.invariant c.requires.class c.in-Some.ensures.first c.load_seat-avail.ensures.view c.load_seat-freed.ensures.view in
-    next_at ((ap (λ (x : Inside g.row.N.Denot g.row.M.Denot g.row.P.Denot). x.works) c.self-inside.view_is) ∙ c.self.view_is) reads
+    notes_at ((ap (λ (x : Inside g.row.N.Denot g.row.M.Denot g.row.P.Denot). x.works) c.self-inside.view_is) ∙ c.self.view_is) reads
 
 pub returns-else-mask_of-ne0-clause-ready : goal.returns-else-mask_of-ne0-clause-ready
 returns-else-mask_of-ne0-clause-ready g c =
@@ -63,7 +63,7 @@ returns-else-mask_of-ne0-clause-came g c =
     let reads = masks_at g.N.Name.start g.M.Mapper.span g.M.Mapper.runs g.M.Mapper.refused c.args.class c.in-Some.first c.load_seat-avail.result c.load_seat-freed.result (ap (λ (x : Inside g.row.N.Denot g.row.M.Denot g.row.P.Denot). x.works) c.self-inside.view_is) c.self.invariant c.requires.class c.in-Some.ensures.first c.load_seat-avail.ensures.view c.load_seat-freed.ensures.view in
     came_at ((ap (λ (x : Inside g.row.N.Denot g.row.M.Denot g.row.P.Denot). x.works) c.self-inside.view_is) ∙ c.self.view_is) reads
 
-pub returns-else-mask_of-ne0-clause-next : goal.returns-else-mask_of-ne0-clause-next
-returns-else-mask_of-ne0-clause-next g c =
+pub returns-else-mask_of-ne0-clause-notes : goal.returns-else-mask_of-ne0-clause-notes
+returns-else-mask_of-ne0-clause-notes g c =
     let reads = masks_at g.N.Name.start g.M.Mapper.span g.M.Mapper.runs g.M.Mapper.refused c.args.class c.in-Some.first c.load_seat-avail.result c.load_seat-freed.result (ap (λ (x : Inside g.row.N.Denot g.row.M.Denot g.row.P.Denot). x.works) c.self-inside.view_is) c.self.invariant c.requires.class c.in-Some.ensures.first c.load_seat-avail.ensures.view c.load_seat-freed.ensures.view in
-    next_at ((ap (λ (x : Inside g.row.N.Denot g.row.M.Denot g.row.P.Denot). x.works) c.self-inside.view_is) ∙ c.self.view_is) reads
+    notes_at ((ap (λ (x : Inside g.row.N.Denot g.row.M.Denot g.row.P.Denot). x.works) c.self-inside.view_is) ∙ c.self.view_is) reads

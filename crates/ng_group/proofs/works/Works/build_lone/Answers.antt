@@ -1,10 +1,13 @@
-use Rattle.std.proofs.Common.{◌≡◌, ◌+◌, ◌*◌, ◌<◌, ◌≤◌, [], ap, subst, ◌∙◌, refl, arith}
+use Rattle.std.proofs.Common.{◌≡◌, ◌+◌, ◌*◌, ◌<◌, ◌≤◌, max, [], ap, subst, ◌∙◌, refl, arith}
 use Rattle.ng_ledger.specs.Standing.{Ledger}
 use Rattle.ng_view.specs.declared.view.Group.{Group}
+use Rattle.ng_terms.specs.Accounts.{pages_for}
 use Rattle.ng_group.specs.States.{State, ledger_of}
 use Rattle.ng_group.specs.Steps.{HandsOver}
-use Rattle.ng_group.proofs.LoneLemmas.{ComesAlone, hand_alone, lone_in_space, lone_live, may_build_lone, pages_hold, served_alone, working_alone}
-use Rattle.ng_group.proofs.MappingLemmas.{meta_outside, meta_ready, run_ready, with_seat, working_refused}
+use Rattle.ng_group.proofs.BuildingLemmas.{on_err}
+use Rattle.ng_group.proofs.LoneAskedLemmas.{lone_left}
+use Rattle.ng_group.proofs.LoneLemmas.{ComesAlone, built_alone, hand_alone, lone_in_space, lone_live, may_build_lone, pages_asked, pages_hold, served_alone, working_alone}
+use Rattle.ng_group.proofs.MappingLemmas.{meta_outside, meta_ready, run_ready, view_refused, with_seat, working_refused}
 use Rattle.ng_group.proofs.works.Works.build_lone.Given.{Over}
 use Rattle.ng_group.proofs.works.Works.build_lone.Goals as goal
 
@@ -77,3 +80,27 @@ pub returns-clause-served : goal.returns-clause-served
 returns-clause-served g c =
     let idle : c.self.inside.seat.held ≡ [] = ap (λ (s : State g.row.M.Denot g.row.P.Denot). s.seat.held) c.self.view_is ∙ c.requires.idle in
     served_alone (comes g c) c.args.bytes idle (holds g c)
+
+pub returns-clause-built : goal.returns-clause-built
+returns-clause-built g c =
+    built_alone (comes g c) _ c.args.self.now _ (pages_for c.args.bytes) c.self.view_is refl refl
+    (pages_asked c.args.bytes c.div_ceil-pages.result c.div_ceil-pages.ensures)
+
+-- ---- the run was refused
+pub returns-in_err-base-clause-asked : goal.returns-in_err-base-clause-asked
+returns-in_err-base-clause-asked g c =
+    on_err c.from_residual.result (c.in_err-base.ensures.err.asked.last ∙ pages_asked c.args.bytes c.div_ceil-pages.result c.div_ceil-pages.ensures)
+
+pub returns-in_err-base-clause-most : goal.returns-in_err-base-clause-most
+returns-in_err-base-clause-most g c =
+    let pages : c.div_ceil-pages.result ≡ pages_for c.args.bytes = pages_asked c.args.bytes c.div_ceil-pages.result c.div_ceil-pages.ensures in
+    on_err c.from_residual.result (
+    c.in_err-base.ensures.err.asked.most
+    ∙ ap (max (g.M.Mapper.refused c.self.inside.mapper).most) pages
+    ∙ ap (λ (s : State g.row.M.Denot g.row.P.Denot). max (g.M.Mapper.refused s.mapper).most (pages_for c.args.bytes)) c.self.view_is
+    )
+
+pub returns-in_err-base-clause-left : goal.returns-in_err-base-clause-left
+returns-in_err-base-clause-left g c =
+    let may = may_build_lone g.N.Name.start g.M.Mapper.span g.M.Mapper.runs g.M.Mapper.refused c.args.meta c.self.view_is c.requires.working c.requires.meta in
+    on_err c.from_residual.result (lone_left _ c.args.self.now _ c.self.view_is (view_refused may.working c.in_err-base.ensures.err) refl refl refl)

@@ -1,6 +1,6 @@
 use Rattle.std.proofs.Common.{subst, ◌≡◌, ◌%◌, arith}
 use Rattle.ng_serve.specs.Groups.{Describes}
-use Rattle.ng_group.proofs.EndGroupLemmas.{gone, has_parent, run_held, run_idle, run_in_hand, run_inside, run_live, run_state, run_unmapped, run_whole, slot_above, slot_head, slot_in_hand, slot_on, slot_returned, slot_state, still_of}
+use Rattle.ng_group.proofs.EndGroupLemmas.{gone, has_parent, run_fewer, run_held, run_idle, run_in_hand, run_inside, run_live, run_state, run_unmapped, run_whole, slot_above, slot_fewer, slot_head, slot_in_hand, slot_on, slot_returned, slot_state, still_of}
 use Rattle.ng_group.proofs.works.Works.end_group.Goals as goal
 
 pub leave_any_ring-requires-clause-class : goal.leave_any_ring-requires-clause-class
@@ -40,6 +40,11 @@ pub returns-then-group-gt0-clause-hand : goal.returns-then-group-gt0-clause-hand
 returns-then-group-gt0-clause-hand g c =
     let e = gone g.N.Name.start g.M.Mapper.span g.M.Mapper.runs g.M.Mapper.refused c.args.meta c.args.group.now c.self.view_is c.leave_any_ring.ensures.only c.leave_any_ring.ensures.working c.leave_any_ring.ensures.whole c.leave_any_ring.ensures.left c.retire_group.ensures.ends c.requires.group in
     run_in_hand e c.if-group-gt0.true (g.met.M.Mapper.laid e.mid.mapper) c.drop_run.new.seat c.drop_run.ensures.view c.unmap.new.self c.unmap.ensures.unmapped c.drop_run.ensures.kept (g.met.M.Mapper.bounded e.mid.mapper)
+
+pub returns-then-group-gt0-clause-fewer : goal.returns-then-group-gt0-clause-fewer
+returns-then-group-gt0-clause-fewer g c =
+    let e = gone g.N.Name.start g.M.Mapper.span g.M.Mapper.runs g.M.Mapper.refused c.args.meta c.args.group.now c.self.view_is c.leave_any_ring.ensures.only c.leave_any_ring.ensures.working c.leave_any_ring.ensures.whole c.leave_any_ring.ensures.left c.retire_group.ensures.ends c.requires.group in
+    run_fewer e c.if-group-gt0.true (g.met.M.Mapper.laid e.mid.mapper) c.drop_run.new.seat c.drop_run.ensures.view
 
 pub returns-then-group-gt0-clause-idle : goal.returns-then-group-gt0-clause-idle
 returns-then-group-gt0-clause-idle g c =
@@ -86,6 +91,11 @@ pub returns-clause-hand : goal.returns-clause-hand
 returns-clause-hand g c =
     let e = gone g.N.Name.start g.M.Mapper.span g.M.Mapper.runs g.M.Mapper.refused c.args.meta c.args.group.now c.self.view_is c.leave_any_ring.ensures.only c.leave_any_ring.ensures.working c.leave_any_ring.ensures.whole c.leave_any_ring.ensures.left c.retire_group.ensures.ends c.requires.group in
     slot_in_hand e (omega (arith, c.if-group-gt0.false)) c.of-parent.result.0 c.of-parent.result.1 c.of-parent.ensures c.clear_head.new.seat c.clear_head.ensures.view (g.met.M.Mapper.laid e.mid.mapper) (g.met.M.Mapper.bounded e.mid.mapper)
+
+pub returns-clause-fewer : goal.returns-clause-fewer
+returns-clause-fewer g c =
+    let e = gone g.N.Name.start g.M.Mapper.span g.M.Mapper.runs g.M.Mapper.refused c.args.meta c.args.group.now c.self.view_is c.leave_any_ring.ensures.only c.leave_any_ring.ensures.working c.leave_any_ring.ensures.whole c.leave_any_ring.ensures.left c.retire_group.ensures.ends c.requires.group in
+    slot_fewer e (omega (arith, c.if-group-gt0.false)) c.of-parent.result.0 c.of-parent.result.1 c.of-parent.ensures c.clear_head.new.seat c.clear_head.ensures.view
 
 pub returns-clause-slot : goal.returns-clause-slot
 returns-clause-slot g c =

@@ -1,6 +1,6 @@
 use Rattle.std.proofs.Common.{ap, ◌∙◌}
 use Rattle.ng_group.specs.States.{State}
-use Rattle.ng_group.proofs.ReturningLemmas.{bare_returned, class_known, class_of, put_only, put_works, served_back}
+use Rattle.ng_group.proofs.ReturningLemmas.{bare_returned, class_known, class_of, put_only, put_works, reads_put, served_back}
 use Rattle.ng_group.proofs.works.Works.put_back.Goals as goal
 
 pub enlist-requires-clause-class : goal.enlist-requires-clause-class
@@ -22,3 +22,6 @@ returns-clause-working g c = put_works c.args.self.now c.enlist.new.self _ c.sel
 
 pub returns-clause-only : goal.returns-clause-only
 returns-clause-only g c = put_only c.args.self.now c.enlist.new.self _ c.self.view_is c.args.class c.enlist.ensures.only c.args.meta c.args.index c.put_slot.new.seat c.put_slot.ensures
+
+pub returns-clause-reads : goal.returns-clause-reads
+returns-clause-reads g c = reads_put c.args.meta c.self.view_is c.args.self.now.seat c.args.index c.put_slot.new.seat c.enlist.ensures.reads c.put_slot.ensures

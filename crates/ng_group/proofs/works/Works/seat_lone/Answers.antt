@@ -1,4 +1,9 @@
-use Rattle.ng_group.specs.States.{ledger_of}
+use Rattle.std.proofs.Common.{ap, max, refl, ◌∙◌}
+use Rattle.ng_mapper.specs.declared.refusals.Refusals.{Refusals}
+use Rattle.ng_terms.specs.Accounts.{pages_for}
+use Rattle.ng_group.specs.States.{State, ledger_of}
+use Rattle.ng_group.proofs.BuildingLemmas.{on_err}
+use Rattle.ng_group.proofs.LoneAskedLemmas.{area_cause, area_leaves, lone_builds, lone_cause, lone_leaves, most_area, most_same}
 use Rattle.ng_group.proofs.LoneSeatLemmas.{failed_hand, failed_on, failed_working, found_over, found_working, stock_at}
 use Rattle.ng_group.proofs.works.Works.seat_lone.Goals as goal
 
@@ -24,3 +29,52 @@ returns-in-Err-clause-on g c =
 pub returns-in-Err-clause-hand : goal.returns-in-Err-clause-hand
 returns-in-Err-clause-hand g c =
     failed_hand g.N.Name.start g.M.Mapper.span g.M.Mapper.runs g.M.Mapper.refused c.find_meta.new.mapper c.self.view_is c.in_ok-meta.ensures.ok c.self-2.view_is c.in-Err.ensures.kept c.put.ensures.appended
+
+pub returns-in-Ok-clause-builds : goal.returns-in-Ok-clause-builds
+returns-in-Ok-clause-builds g c =
+    lone_builds g.N.Name.start g.M.Mapper.runs _ c.args.self.now c.self.view_is c.in_ok-meta.meta
+    c.find_meta.new.seat c.find_meta.new.stock c.find_meta.new.mapper c.in_ok-meta.ensures.ok
+    c.args.bytes
+    c.build_lone.new.self
+    c.in-Ok.ensures.built
+
+-- ---- the block's run was refused
+pub returns-in-Err-clause-cause : goal.returns-in-Err-clause-cause
+returns-in-Err-clause-cause g c =
+    lone_cause g.N.Name.start g.M.Mapper.runs _ c.args.self.now c.self.view_is c.in_ok-meta.meta
+    c.find_meta.new.seat c.find_meta.new.stock c.find_meta.new.mapper c.in_ok-meta.ensures.ok
+    c.build_lone.new.self c.self-2.inside.seat c.in-Err.ensures.left (ap (λ (s : State g.row.M.Denot g.row.P.Denot). s.seat) c.self-2.view_is) c.args.bytes _
+    (ap (λ (s : State g.row.M.Denot g.row.P.Denot). (g.M.Mapper.refused s.mapper).last) c.self-2.view_is ∙ c.in-Err.ensures.asked)
+
+pub returns-in-Err-clause-leaves : goal.returns-in-Err-clause-leaves
+returns-in-Err-clause-leaves g c =
+    lone_leaves g.N.Name.start g.M.Mapper.runs _ c.args.self.now c.self.view_is c.in_ok-meta.meta
+    c.find_meta.new.seat c.find_meta.new.stock c.find_meta.new.mapper c.in_ok-meta.ensures.ok
+    c.build_lone.new.self _ c.in-Err.ensures.left (ap (λ (s : State g.row.M.Denot g.row.P.Denot). s.seat) c.self-2.view_is)
+    c.in-Err.ensures.on
+    (ap (λ (s : State g.row.M.Denot g.row.P.Denot). s.rings) c.self-2.view_is)
+    (ap (λ (s : State g.row.M.Denot g.row.P.Denot). s.usage) c.self-2.view_is)
+
+pub returns-in-Err-clause-most : goal.returns-in-Err-clause-most
+returns-in-Err-clause-most g c =
+    most_same (g.M.Mapper.refused c.args.self.now.mapper).most (g.M.Mapper.refused c.find_meta.new.mapper).most _ (pages_for c.args.bytes)
+    (ap (λ (s : State g.row.M.Denot g.row.P.Denot). (g.M.Mapper.refused s.mapper).most) c.self-2.view_is ∙ c.in-Err.ensures.most)
+    (ap (λ (r : Refusals). r.most) c.in_ok-meta.ensures.calm
+    ∙ ap (λ (s : State g.row.M.Denot g.row.P.Denot). (g.M.Mapper.refused s.mapper).most) c.self.view_is)
+
+-- ---- the area of a meta was refused
+pub returns-in_err-meta-clause-cause : goal.returns-in_err-meta-clause-cause
+returns-in_err-meta-clause-cause g c =
+    on_err c.from_residual.result
+    (area_cause _ c.args.self.now c.self.view_is _ _ _ c.find_meta.new.seat c.in_err-meta.ensures.err c.args.bytes c.in_err-meta.ensures.none)
+
+pub returns-in_err-meta-clause-leaves : goal.returns-in_err-meta-clause-leaves
+returns-in_err-meta-clause-leaves g c =
+    on_err c.from_residual.result
+    (area_leaves _ c.args.self.now c.self.view_is _ _ _ c.find_meta.new.seat c.in_err-meta.ensures.err _ refl refl refl)
+
+pub returns-in_err-meta-clause-most : goal.returns-in_err-meta-clause-most
+returns-in_err-meta-clause-most g c =
+    on_err c.from_residual.result
+    (most_area c.args.bytes (g.M.Mapper.refused c.args.self.now.mapper).most (g.M.Mapper.refused c.find_meta.new.mapper).most
+    (c.in_err-meta.ensures.err.asked.most ∙ ap (λ (s : State g.row.M.Denot g.row.P.Denot). max (g.M.Mapper.refused s.mapper).most 1) c.self.view_is))

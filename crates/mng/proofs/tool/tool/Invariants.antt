@@ -1,0 +1,5 @@
+use Rattle.mng.proofs.tool.tool.Given as goal
+
+-- the name of the heap whose memory was just taken
+abbrev pub ghosts-run : goal.ghosts-run
+ghosts-run g a = record { table = a.fresh.blank.table; start = a.fresh.blank.start }

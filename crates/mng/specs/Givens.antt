@@ -1,0 +1,62 @@
+-- What the code keeps of the words so far. No public clause cites this module.
+use Rattle.std.specs.Prelude.{ℕ, ◌∷◌, [], ◌++◌, ◌==◌, ◌&&◌, true, false, List, length, codes, if◌then◌else◌, nat_le, nat_lt, Option, Some, None, option_and_then, is_some}
+use Rattle.std.specs.List.{slice_split}
+use Rattle.std.specs.Str.{bytes_eq}
+use Rattle.mng.specs.Words.{number_of}
+use Rattle.mng.specs.declared.asked.Given.{Given}
+
+-- the pages that a text asks for
+unfoldable pub pages_of : List ℕ → Option ℕ
+pages_of text = option_and_then (λ pages. if nat_le 16 pages && nat_le pages 16384 then Some pages else None) (number_of text)
+
+-- the numbers so far, and the one that a text writes
+unfoldable pub number_added : List ℕ → List ℕ → Option (List ℕ)
+number_added numbers text =
+    option_and_then
+    (λ number. if nat_le 1 number && nat_le number 1000000 && nat_lt (length numbers) 64 then Some (numbers ++ number ∷ []) else None)
+    (number_of text)
+
+-- the numbers so far, and those that texts write
+unfoldable pub numbers_added : List ℕ → List (List ℕ) → Option (List ℕ)
+numbers_added numbers [] = Some numbers
+numbers_added numbers (text ∷ texts) = option_and_then (λ more. numbers_added more texts) (number_added numbers text)
+
+-- the numbers of a list
+unfoldable pub list_of : List ℕ → Option (List ℕ)
+list_of text = numbers_added [] (slice_split (λ byte. byte == 44) text)
+
+-- what was given, and `--calls`
+unfoldable pub calls_added : Given → Option Given
+calls_added given = if given.calls_shown then None else Some (record given { calls_shown = true })
+
+-- what was given, and `--pages` and this text
+unfoldable pub pages_added : Given → List ℕ → Option Given
+pages_added given text =
+    if is_some given.pages then None else option_and_then (λ pages. Some (record given { pages = Some pages })) (pages_of text)
+
+-- what was given, and `--refuse` and this text
+unfoldable pub refuse_added : Given → List ℕ → Option Given
+refuse_added given text =
+    if is_some given.refuse then None else option_and_then (λ numbers. Some (record given { refuse = Some numbers })) (list_of text)
+
+-- what was given, and this option with the text behind it
+unfoldable pub pair_added : Given → List ℕ → List ℕ → Option Given
+pair_added given option text =
+    if bytes_eq option (codes "--pages") then pages_added given text
+    else if bytes_eq option (codes "--refuse") then refuse_added given text
+    else None
+
+-- what was given, and the options of these texts
+unfoldable pub options_added : Given → List (List ℕ) → Option Given
+options_added given [] = Some given
+options_added given (option ∷ []) =
+    if bytes_eq option (codes "--calls") then option_and_then (λ more. options_added more []) (calls_added given) else None
+options_added given (option ∷ text ∷ texts) =
+    if bytes_eq option (codes "--calls") then option_and_then (λ more. options_added more (text ∷ texts)) (calls_added given)
+    else option_and_then (λ more. options_added more texts) (pair_added given option text)
+
+-- what texts give that begin with the command's name
+unfoldable pub given_of : List (List ℕ) → Option Given
+given_of [] = None
+given_of (name ∷ texts) =
+    if bytes_eq name (codes "serial") then options_added (record { calls_shown = false; pages = None; refuse = None }) texts else None

@@ -1,0 +1,145 @@
+use Rattle.std.proofs.Common.{ap, refl}
+use Rattle.ng_view.specs.declared.view.View.{View}
+use Rattle.ng_group.specs.Hands.{GainsExcuse, GainsSlot}
+use Rattle.ng_group.proofs.AskedLemmas.{passed_leaves, passed_lone, passed_lone_cause}
+use Rattle.ng_group.proofs.CallLemmas.{Refuses, Serves, excuse_found, excuse_number, refuses_at, rests_excuse, rests_slot, serves_at, slot_found, slot_motion, slot_place, works_of}
+use Rattle.ng_group.proofs.HandKeepLemmas.{apart_of, excused_blocks, excused_slots, gained_blocks, gained_slots}
+use Rattle.ng_group.proofs.HandSlotLemmas.{excused, learns_same, passed, passed_slot}
+use Rattle.ng_group.proofs.heap_core.Core.alloc_lone.Given.{Over}
+use Rattle.ng_group.proofs.heap_core.Core.alloc_lone.Goals as goal
+
+-- ---- the seat passed on a slot
+pub slot_to_hand-requires-clause-place : goal.slot_to_hand-requires-clause-place
+slot_to_hand-requires-clause-place g c =
+    slot_place g.N.Name.start g.M.Mapper.span g.M.Mapper.runs g.M.Mapper.refused (works_of c.self-inside.view_is)
+    63 c.args.bytes c.in-Ok.meta 0
+    c.in-Ok.ensures.working
+    c.in-Ok.ensures.served
+
+pub slot_to_hand-requires-clause-slot : goal.slot_to_hand-requires-clause-slot
+slot_to_hand-requires-clause-slot g c =
+    slot_motion g.N.Name.start g.M.Mapper.span g.M.Mapper.runs g.M.Mapper.refused (works_of c.self-inside.view_is)
+    63 c.args.bytes c.in-Ok.meta 0
+    c.in-Ok.ensures.served
+
+-- what the seat's call told
+served : (g : Over) (c : goal.After-slot_to_hand g)
+    → Serves g.N.Name.start g.M.Mapper.span g.M.Mapper.runs g.M.Mapper.refused 63 c.args.bytes c.in-Ok.meta 0 c.args.self.now c.seat_lone.new.self
+served g c =
+    serves_at g.N.Name.start g.M.Mapper.span g.M.Mapper.runs g.M.Mapper.refused 63 c.args.bytes c.in-Ok.meta 0 c.self.view_is c.self.invariant
+    c.in-Ok.ensures.working
+    c.in-Ok.ensures.on
+    c.in-Ok.ensures.hand
+    c.in-Ok.ensures.served
+    c.in-Ok.ensures.calm
+
+pub invariant_of-self : goal.invariant_of-self
+invariant_of-self g c =
+    rests_slot g.N.Name.start g.M.Mapper.span g.M.Mapper.runs g.M.Mapper.refused (works_of c.self-inside.view_is)
+    63 c.args.bytes c.in-Ok.meta 0
+    (served g c)
+    c.slot_to_hand.new.seat
+    c.slot_to_hand.ensures.seat
+
+gains : (g : Over) (c : goal.After-slot_to_hand g)
+    → GainsSlot c.slot_to_hand.result.meta c.slot_to_hand.result.index c.args.hand.now.view c.slot_to_hand.new.hand.view
+gains g c =
+    passed 63 c.args.bytes c.in-Ok.meta 0 c.seat_lone.new.self.seat c.in-Ok.ensures.served
+    c.args.hand.now.view c.args.hand.now.view (learns_same c.args.hand.now.view) _
+    (slot_found g.N.Name.start g.M.Mapper.span g.M.Mapper.runs g.M.Mapper.refused (works_of c.self-inside.view_is)
+    63 c.args.bytes c.in-Ok.meta 0 c.in-Ok.ensures.served)
+    c.slot_to_hand.new.hand c.slot_to_hand.result c.slot_to_hand.ensures.view c.slot_to_hand.ensures.meta c.slot_to_hand.ensures.index
+
+pub returns-in-Ok-clause-slot : goal.returns-in-Ok-clause-slot
+returns-in-Ok-clause-slot g c =
+    passed_slot 63 c.args.bytes c.in-Ok.meta 0 c.seat_lone.new.self.seat c.in-Ok.ensures.served
+    c.args.hand.now.view c.args.hand.now.view (learns_same c.args.hand.now.view) _
+    (slot_found g.N.Name.start g.M.Mapper.span g.M.Mapper.runs g.M.Mapper.refused (works_of c.self-inside.view_is)
+    63 c.args.bytes c.in-Ok.meta 0 c.in-Ok.ensures.served)
+    c.slot_to_hand.new.hand c.slot_to_hand.result c.slot_to_hand.ensures.view c.slot_to_hand.ensures.meta c.slot_to_hand.ensures.index
+    c.slot_to_hand.ensures.slot
+
+pub returns-in-Ok-clause-gains : goal.returns-in-Ok-clause-gains
+returns-in-Ok-clause-gains g c = gains g c
+
+pub returns-in-Ok-clause-apart : goal.returns-in-Ok-clause-apart
+returns-in-Ok-clause-apart g c =
+    apart_of c.args.hand.now c.slot_to_hand.new.hand c.slot_to_hand.result (gains g c) c.slot_to_hand.ensures.once
+
+pub returns-in-Ok-clause-others : goal.returns-in-Ok-clause-others
+returns-in-Ok-clause-others g c =
+    gained_slots c.args.hand.now c.slot_to_hand.new.hand c.slot_to_hand.result c.slot_to_hand.ensures.number (gains g c) c.slot_to_hand.ensures.once
+
+pub returns-in-Ok-clause-blocks : goal.returns-in-Ok-clause-blocks
+returns-in-Ok-clause-blocks g c =
+    gained_blocks c.args.hand.now c.slot_to_hand.new.hand c.slot_to_hand.result c.slot_to_hand.ensures.number (gains g c) c.slot_to_hand.ensures.once
+
+pub returns-in-Ok-clause-builds : goal.returns-in-Ok-clause-builds
+returns-in-Ok-clause-builds g c =
+    passed_lone c.self.view_is (works_of c.self-inside.view_is) _
+    (ap (λ (x : View). x.desk) c.slot_to_hand.ensures.seat)
+    c.args.bytes c.in-Ok.meta c.slot_to_hand.result.meta c.slot_to_hand.ensures.meta
+    c.in-Ok.ensures.builds
+
+-- ---- the seat passed on an excuse
+pub excuse_to_hand-requires : goal.excuse_to_hand-requires
+excuse_to_hand-requires g c =
+    let told = refuses_at g.N.Name.start g.M.Mapper.span g.M.Mapper.runs g.M.Mapper.refused c.in-Err.number c.self.view_is c.self.invariant
+    c.in-Err.ensures.working
+    c.in-Err.ensures.on
+    c.in-Err.ensures.hand
+    c.in-Err.ensures.refused
+    c.in-Err.ensures.idle in
+    record { excuse = excuse_number g.N.Name.start g.M.Mapper.span g.M.Mapper.runs g.M.Mapper.refused (works_of c.self-inside.view_is) c.in-Err.number told }
+
+refuses : (g : Over) (c : goal.After-excuse_to_hand g)
+    → Refuses g.N.Name.start g.M.Mapper.span g.M.Mapper.runs g.M.Mapper.refused c.in-Err.number c.args.self.now c.seat_lone.new.self
+refuses g c =
+    refuses_at g.N.Name.start g.M.Mapper.span g.M.Mapper.runs g.M.Mapper.refused c.in-Err.number c.self.view_is c.self.invariant
+    c.in-Err.ensures.working
+    c.in-Err.ensures.on
+    c.in-Err.ensures.hand
+    c.in-Err.ensures.refused
+    c.in-Err.ensures.idle
+
+pub invariant_of-self-in-Err : goal.invariant_of-self-in-Err
+invariant_of-self-in-Err g c =
+    rests_excuse g.N.Name.start g.M.Mapper.span g.M.Mapper.runs g.M.Mapper.refused (works_of c.self-inside.view_is) c.in-Err.number (refuses g c)
+    c.excuse_to_hand.new.seat
+    c.excuse_to_hand.ensures.seat
+
+gains-in-Err : (g : Over) (c : goal.After-excuse_to_hand g)
+    → GainsExcuse c.excuse_to_hand.result.number c.args.hand.now.view c.excuse_to_hand.new.hand.view
+gains-in-Err g c =
+    excused c.in-Err.number c.excuse_to_hand.result.number c.args.hand.now.view c.args.hand.now.view c.excuse_to_hand.new.hand.view _
+    c.excuse_to_hand.ensures.excuse
+    (learns_same c.args.hand.now.view)
+    (excuse_found g.N.Name.start g.M.Mapper.span g.M.Mapper.runs g.M.Mapper.refused (works_of c.self-inside.view_is) c.in-Err.number (refuses g c))
+    c.excuse_to_hand.ensures.view
+
+pub returns-in-Err-clause-others : goal.returns-in-Err-clause-others
+returns-in-Err-clause-others g c =
+    excused_slots c.args.hand.now c.excuse_to_hand.new.hand c.excuse_to_hand.result.number c.excuse_to_hand.ensures.number (gains-in-Err g c)
+
+pub returns-in-Err-clause-blocks : goal.returns-in-Err-clause-blocks
+returns-in-Err-clause-blocks g c =
+    excused_blocks c.args.hand.now c.excuse_to_hand.new.hand c.excuse_to_hand.result.number c.excuse_to_hand.ensures.number (gains-in-Err g c)
+
+pub returns-in-Err-clause-excused : goal.returns-in-Err-clause-excused
+returns-in-Err-clause-excused g c = gains-in-Err g c
+
+pub returns-in-Err-clause-cause : goal.returns-in-Err-clause-cause
+returns-in-Err-clause-cause g c =
+    passed_lone_cause (λ m. (g.M.Mapper.refused m).last) c.self.view_is (works_of c.self-inside.view_is) c.excuse_to_hand.new.seat
+    (ap (λ (x : View). x.desk) c.excuse_to_hand.ensures.seat)
+    c.args.bytes
+    c.in-Err.ensures.cause
+
+pub returns-in-Err-clause-leaves : goal.returns-in-Err-clause-leaves
+returns-in-Err-clause-leaves g c =
+    passed_leaves c.self.view_is (works_of c.self-inside.view_is) _
+    (ap (λ (x : View). x.desk) c.excuse_to_hand.ensures.seat)
+    (ap (λ (x : View). x.readings) c.excuse_to_hand.ensures.seat)
+    refl
+    refl
+    c.in-Err.ensures.leaves

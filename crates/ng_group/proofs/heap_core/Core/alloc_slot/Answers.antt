@@ -1,0 +1,217 @@
+use Rattle.std.proofs.Common.{ap, refl, sym, ◌∙◌}
+use Rattle.ng_view.specs.declared.view.View.{View}
+use Rattle.ng_group.specs.Hands.{GainsExcuse, GainsSlot}
+use Rattle.ng_group.proofs.AskedLemmas.{builds_none, passed_builds, passed_cause, passed_leaves}
+use Rattle.ng_group.proofs.CallLemmas.{Refuses, Serves, excuse_found, excuse_number, first_place, refuses_at, rests_excuse, rests_slot, serves_at, slot_found, slot_motion, slot_place, works_of}
+use Rattle.ng_group.proofs.HandKeepLemmas.{apart_of, excused_blocks, excused_slots, gained_blocks, gained_slots}
+use Rattle.ng_group.proofs.HandSlotLemmas.{Tried, excused, passed, passed_slot, tried_not, tried_pop, won, won_slot}
+use Rattle.ng_group.proofs.WorkingLemmas.{goes_same}
+use Rattle.ng_group.proofs.heap_core.Core.alloc_slot.Given.{Over}
+use Rattle.ng_group.proofs.heap_core.Core.alloc_slot.Goals.{in-Some+in-Bare, in_default}
+use Rattle.ng_group.proofs.heap_core.Core.alloc_slot.Goals as goal
+
+-- ---- the hand won a slot
+pub pop-requires-clause-place : goal.pop-requires-clause-place
+pop-requires-clause-place g c =
+    first_place g.N.Name.start g.M.Mapper.span g.M.Mapper.runs g.M.Mapper.refused c.args.class c.in-Some.first
+    (works_of c.self-inside.view_is)
+    c.self.invariant.working
+    c.requires.class
+    (sym c.in-Some.ensures.first)
+
+gains_won : (g : Over) (c : goal.In-Won g) → GainsSlot c.in-Won.slot.meta c.in-Won.slot.index c.args.hand.now.view c.pop.new.hand.view
+gains_won g c = won c.in-Some.first c.args.class c.args.hand.now.view c.pop.new.hand c.in-Won.slot c.in-Won.ensures.cause c.in-Won.ensures.meta
+
+pub returns-in-Won-clause-slot : goal.returns-in-Won-clause-slot
+returns-in-Won-clause-slot g c =
+    won_slot c.in-Some.first c.args.class c.args.hand.now.view c.pop.new.hand c.in-Won.slot c.in-Won.ensures.cause c.in-Won.ensures.meta
+    c.args.bytes
+    c.in-Won.ensures.won
+    c.requires.class
+    c.requires.bytes
+
+pub returns-in-Won-clause-gains : goal.returns-in-Won-clause-gains
+returns-in-Won-clause-gains g c = gains_won g c
+
+pub returns-in-Won-clause-apart : goal.returns-in-Won-clause-apart
+returns-in-Won-clause-apart g c = apart_of c.args.hand.now c.pop.new.hand c.in-Won.slot (gains_won g c) c.in-Won.ensures.once
+
+pub returns-in-Won-clause-others : goal.returns-in-Won-clause-others
+returns-in-Won-clause-others g c = gained_slots c.args.hand.now c.pop.new.hand c.in-Won.slot c.pop.ensures.number (gains_won g c) c.in-Won.ensures.once
+
+pub returns-in-Won-clause-blocks : goal.returns-in-Won-clause-blocks
+returns-in-Won-clause-blocks g c = gained_blocks c.args.hand.now c.pop.new.hand c.in-Won.slot c.pop.ensures.number (gains_won g c) c.in-Won.ensures.once
+
+pub returns-in-Won-clause-builds : goal.returns-in-Won-clause-builds
+returns-in-Won-clause-builds g c = builds_none (g.P.Rules.count_gives c.args.self.now.rules) c.args.self.now c.args.class c.args.bytes
+
+pub returns-in-Won-clause-on : goal.returns-in-Won-clause-on
+returns-in-Won-clause-on g c = goes_same c.args.self.now.seat
+
+-- ---- the seat passed on a slot
+pub slot_to_hand-requires-clause-place : goal.slot_to_hand-requires-clause-place
+slot_to_hand-requires-clause-place g c =
+    slot_place g.N.Name.start g.M.Mapper.span g.M.Mapper.runs g.M.Mapper.refused (works_of c.self-inside-2.view_is)
+    c.args.class c.args.bytes c.in-Ok.meta c.in-Ok.index
+    c.in-Ok.ensures.working
+    c.in-Ok.ensures.served
+
+pub slot_to_hand-requires-clause-slot : goal.slot_to_hand-requires-clause-slot
+slot_to_hand-requires-clause-slot g c =
+    slot_motion g.N.Name.start g.M.Mapper.span g.M.Mapper.runs g.M.Mapper.refused (works_of c.self-inside-2.view_is)
+    c.args.class c.args.bytes c.in-Ok.meta c.in-Ok.index
+    c.in-Ok.ensures.served
+
+-- what the seat's call told
+served : (g : Over) (c : goal.After-slot_to_hand g)
+    → Serves g.N.Name.start g.M.Mapper.span g.M.Mapper.runs g.M.Mapper.refused c.args.class c.args.bytes c.in-Ok.meta c.in-Ok.index c.args.self.now c.seat_slot.new.self
+served g c =
+    serves_at g.N.Name.start g.M.Mapper.span g.M.Mapper.runs g.M.Mapper.refused c.args.class c.args.bytes c.in-Ok.meta c.in-Ok.index
+    c.self.view_is
+    c.self.invariant
+    c.in-Ok.ensures.working
+    c.in-Ok.ensures.on
+    c.in-Ok.ensures.hand
+    c.in-Ok.ensures.served
+    c.in-Ok.ensures.calm
+
+pub invariant_of-self : goal.invariant_of-self
+invariant_of-self g c =
+    rests_slot g.N.Name.start g.M.Mapper.span g.M.Mapper.runs g.M.Mapper.refused (works_of c.self-inside-2.view_is)
+    c.args.class c.args.bytes c.in-Ok.meta c.in-Ok.index
+    (served g c)
+    c.slot_to_hand.new.seat
+    c.slot_to_hand.ensures.seat
+
+-- what the hand's own try left
+tried : (g : Over) (c : goal.After-slot_to_hand g) → Tried c.args.hand.now c.match-first.hand
+tried g c = elim c.match-first.branch [
+  | in-Some+in-Bare w ↦ tried_pop w.in-Some.first c.args.class c.args.hand.now w.pop.new.hand c.match-first.hand w.pop.result w.in-Bare.is
+      w.pop.ensures.cause
+      w.pop.ensures.number
+      w.hand-is
+  | in_default w ↦ tried_not c.args.hand.now c.match-first.hand w.hand-is
+]
+
+gains : (g : Over) (c : goal.After-slot_to_hand g)
+    → GainsSlot c.slot_to_hand.result.meta c.slot_to_hand.result.index c.args.hand.now.view c.slot_to_hand.new.hand.view
+gains g c =
+    passed c.args.class c.args.bytes c.in-Ok.meta c.in-Ok.index c.seat_slot.new.self.seat c.in-Ok.ensures.served
+    c.args.hand.now.view c.match-first.hand.view (tried g c).learns _
+    (slot_found g.N.Name.start g.M.Mapper.span g.M.Mapper.runs g.M.Mapper.refused (works_of c.self-inside-2.view_is)
+    c.args.class c.args.bytes c.in-Ok.meta c.in-Ok.index c.in-Ok.ensures.served)
+    c.slot_to_hand.new.hand c.slot_to_hand.result c.slot_to_hand.ensures.view c.slot_to_hand.ensures.meta c.slot_to_hand.ensures.index
+
+pub returns-in-Ok-clause-slot : goal.returns-in-Ok-clause-slot
+returns-in-Ok-clause-slot g c =
+    passed_slot c.args.class c.args.bytes c.in-Ok.meta c.in-Ok.index c.seat_slot.new.self.seat c.in-Ok.ensures.served
+    c.args.hand.now.view c.match-first.hand.view (tried g c).learns _
+    (slot_found g.N.Name.start g.M.Mapper.span g.M.Mapper.runs g.M.Mapper.refused (works_of c.self-inside-2.view_is)
+    c.args.class c.args.bytes c.in-Ok.meta c.in-Ok.index c.in-Ok.ensures.served)
+    c.slot_to_hand.new.hand c.slot_to_hand.result c.slot_to_hand.ensures.view c.slot_to_hand.ensures.meta c.slot_to_hand.ensures.index
+    c.slot_to_hand.ensures.slot
+
+pub returns-in-Ok-clause-gains : goal.returns-in-Ok-clause-gains
+returns-in-Ok-clause-gains g c = gains g c
+
+pub returns-in-Ok-clause-apart : goal.returns-in-Ok-clause-apart
+returns-in-Ok-clause-apart g c =
+    apart_of c.args.hand.now c.slot_to_hand.new.hand c.slot_to_hand.result (gains g c) c.slot_to_hand.ensures.once
+
+pub returns-in-Ok-clause-others : goal.returns-in-Ok-clause-others
+returns-in-Ok-clause-others g c =
+    gained_slots c.args.hand.now c.slot_to_hand.new.hand c.slot_to_hand.result
+    (c.slot_to_hand.ensures.number ∙ (tried g c).number)
+    (gains g c)
+    c.slot_to_hand.ensures.once
+
+pub returns-in-Ok-clause-blocks : goal.returns-in-Ok-clause-blocks
+returns-in-Ok-clause-blocks g c =
+    gained_blocks c.args.hand.now c.slot_to_hand.new.hand c.slot_to_hand.result
+    (c.slot_to_hand.ensures.number ∙ (tried g c).number)
+    (gains g c)
+    c.slot_to_hand.ensures.once
+
+pub returns-in-Ok-clause-builds : goal.returns-in-Ok-clause-builds
+returns-in-Ok-clause-builds g c =
+    passed_builds g.P.Rules.count_gives (λ m. (g.M.Mapper.refused m).last) c.args.class c.args.bytes c.self.view_is (works_of c.self-inside-2.view_is) _
+    (ap (λ (x : View). x.desk) c.slot_to_hand.ensures.seat)
+    (ap (λ (x : View). x.readings) c.slot_to_hand.ensures.seat)
+    c.in-Ok.ensures.builds
+
+-- ---- the seat passed on an excuse
+pub excuse_to_hand-requires : goal.excuse_to_hand-requires
+excuse_to_hand-requires g c =
+    let told = refuses_at g.N.Name.start g.M.Mapper.span g.M.Mapper.runs g.M.Mapper.refused c.in-Err.number c.self.view_is c.self.invariant
+    c.in-Err.ensures.working
+    c.in-Err.ensures.on
+    c.in-Err.ensures.hand
+    c.in-Err.ensures.refused
+    c.in-Err.ensures.idle in
+    record { excuse = excuse_number g.N.Name.start g.M.Mapper.span g.M.Mapper.runs g.M.Mapper.refused (works_of c.self-inside-2.view_is) c.in-Err.number told }
+
+refuses : (g : Over) (c : goal.After-excuse_to_hand g)
+    → Refuses g.N.Name.start g.M.Mapper.span g.M.Mapper.runs g.M.Mapper.refused c.in-Err.number c.args.self.now c.seat_slot.new.self
+refuses g c =
+    refuses_at g.N.Name.start g.M.Mapper.span g.M.Mapper.runs g.M.Mapper.refused c.in-Err.number c.self.view_is c.self.invariant
+    c.in-Err.ensures.working
+    c.in-Err.ensures.on
+    c.in-Err.ensures.hand
+    c.in-Err.ensures.refused
+    c.in-Err.ensures.idle
+
+pub invariant_of-self-in-Err : goal.invariant_of-self-in-Err
+invariant_of-self-in-Err g c =
+    rests_excuse g.N.Name.start g.M.Mapper.span g.M.Mapper.runs g.M.Mapper.refused (works_of c.self-inside-2.view_is) c.in-Err.number (refuses g c)
+    c.excuse_to_hand.new.seat
+    c.excuse_to_hand.ensures.seat
+
+-- what the hand's own try left
+tried-in-Err : (g : Over) (c : goal.After-excuse_to_hand g) → Tried c.args.hand.now c.match-first.hand
+tried-in-Err g c = elim c.match-first.branch [
+  | in-Some+in-Bare w ↦ tried_pop w.in-Some.first c.args.class c.args.hand.now w.pop.new.hand c.match-first.hand w.pop.result w.in-Bare.is
+      w.pop.ensures.cause
+      w.pop.ensures.number
+      w.hand-is
+  | in_default w ↦ tried_not c.args.hand.now c.match-first.hand w.hand-is
+]
+
+gains-in-Err : (g : Over) (c : goal.After-excuse_to_hand g)
+    → GainsExcuse c.excuse_to_hand.result.number c.args.hand.now.view c.excuse_to_hand.new.hand.view
+gains-in-Err g c =
+    excused c.in-Err.number c.excuse_to_hand.result.number c.args.hand.now.view c.match-first.hand.view c.excuse_to_hand.new.hand.view _
+    c.excuse_to_hand.ensures.excuse
+    (tried-in-Err g c).learns
+    (excuse_found g.N.Name.start g.M.Mapper.span g.M.Mapper.runs g.M.Mapper.refused (works_of c.self-inside-2.view_is) c.in-Err.number (refuses g c))
+    c.excuse_to_hand.ensures.view
+
+pub returns-in-Err-clause-others : goal.returns-in-Err-clause-others
+returns-in-Err-clause-others g c =
+    excused_slots c.args.hand.now c.excuse_to_hand.new.hand c.excuse_to_hand.result.number
+    (c.excuse_to_hand.ensures.number ∙ (tried-in-Err g c).number)
+    (gains-in-Err g c)
+
+pub returns-in-Err-clause-blocks : goal.returns-in-Err-clause-blocks
+returns-in-Err-clause-blocks g c =
+    excused_blocks c.args.hand.now c.excuse_to_hand.new.hand c.excuse_to_hand.result.number
+    (c.excuse_to_hand.ensures.number ∙ (tried-in-Err g c).number)
+    (gains-in-Err g c)
+
+pub returns-in-Err-clause-excused : goal.returns-in-Err-clause-excused
+returns-in-Err-clause-excused g c = gains-in-Err g c
+
+pub returns-in-Err-clause-cause : goal.returns-in-Err-clause-cause
+returns-in-Err-clause-cause g c =
+    passed_cause g.P.Rules.count_gives (λ m. (g.M.Mapper.refused m).last) c.args.class c.args.bytes c.self.view_is (works_of c.self-inside-2.view_is) _
+    (ap (λ (x : View). x.desk) c.excuse_to_hand.ensures.seat)
+    (ap (λ (x : View). x.readings) c.excuse_to_hand.ensures.seat)
+    c.in-Err.ensures.cause
+
+pub returns-in-Err-clause-leaves : goal.returns-in-Err-clause-leaves
+returns-in-Err-clause-leaves g c =
+    passed_leaves c.self.view_is (works_of c.self-inside-2.view_is) _
+    (ap (λ (x : View). x.desk) c.excuse_to_hand.ensures.seat)
+    (ap (λ (x : View). x.readings) c.excuse_to_hand.ensures.seat)
+    refl
+    refl
+    c.in-Err.ensures.leaves

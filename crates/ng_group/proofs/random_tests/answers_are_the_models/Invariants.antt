@@ -1,0 +1,5 @@
+use Rattle.ng_group.proofs.random_tests.answers_are_the_models.Given as goal
+
+-- the heap that was just made
+abbrev pub ghosts-run : goal.ghosts-run
+ghosts-run g a = record { table = a.blank.table; start = a.blank.start }

@@ -1,0 +1,5 @@
+use Rattle.ng_group.proofs.tests.a_refused_call_leaves_an_excuse.Given as goal
+
+-- the heap that was just made
+abbrev pub ghosts-refuse_one : goal.ghosts-refuse_one
+ghosts-refuse_one g a = record { table = a.blank.table; start = a.blank.start }

@@ -1,0 +1,5 @@
+use Rattle.ng_group.proofs.tests.four_slots_come_and_go.Given as goal
+
+-- the heap that was just made
+abbrev pub ghosts-serve_four : goal.ghosts-serve_four
+ghosts-serve_four g a = record { table = a.blank.table; start = a.blank.start }

@@ -1,0 +1,43 @@
+-- What a call for a block that is a group by itself builds, and when it asks the mapper for pages.
+use Rattle.std.specs.Prelude.{◌≡◌, ◌⊎◌, ℕ, ◌∷◌, [], List, false, true}
+use Rattle.ng_shelf.specs.Stock.{free_of}
+use Rattle.ng_terms.specs.Accounts.{pages_for}
+use Rattle.ng_view.specs.declared.view.Group.{Group}
+use Rattle.ng_view.specs.declared.view.Run.{Run}
+use Rattle.ng_group.specs.States.{State}
+
+-- no area came, or one of one page did, since no meta was free
+abbrev pub IsAreaNeeded : {M P : Type 0} → State M P → List Run → Type 0
+IsAreaNeeded before runs = (runs ≡ before.seat.desk.layout.runs)
+    ⊎ ((free_of before.stock ≡ []) × ((r : Run) × (r.area ≡ true) × (r.pages ≡ 1) × (runs ≡ r ∷ before.seat.desk.layout.runs)))
+
+-- the group of that meta came, which is one block on a run of its own, of so many pages; no other group came, and no other
+-- run
+pub record BuildsAlone {M P : Type 0} (meta pages : ℕ) (before after : State M P) : Type 0 where
+  pub group : Group
+  pub of_meta : group.meta ≡ meta
+  pub of_class : group.tag ≡ 64
+  pub alone : group.last ≡ 0
+  pub of_pages : group.maplen ≡ pages
+  pub groups : after.seat.desk.groups ≡ group ∷ before.seat.desk.groups
+  pub run : after.seat.desk.layout.runs ≡ record { addr = group.base; pages = pages; area = false } ∷ before.seat.desk.layout.runs
+
+-- one group came, of that meta, which is one block on a run of its own, of the pages that so many bytes and 20 take; and
+-- one area at most, which was needed
+pub record BuildsLone {M P : Type 0} (meta : ℕ) (before after : State M P) (bytes : ℕ) : Type 0 where
+  pub group : Group
+  pub of_meta : group.meta ≡ meta
+  pub of_class : group.tag ≡ 64
+  pub alone : group.last ≡ 0
+  pub pages : group.maplen ≡ pages_for bytes
+  pub groups : after.seat.desk.groups ≡ group ∷ before.seat.desk.groups
+  pub runs : List Run
+  pub area : IsAreaNeeded before runs
+  pub run : after.seat.desk.layout.runs ≡ record { addr = group.base; pages = pages_for bytes; area = false } ∷ runs
+
+-- the refused map call was for an area that was needed, and no area came; or for the block's run, and one area came at
+-- most
+abbrev pub IsLoneRefused : {M P : Type 0} → State M P → State M P → ℕ → ℕ → Type 0
+IsLoneRefused before after bytes pages =
+    ((pages ≡ 1) × (free_of before.stock ≡ []) × (after.seat.desk.layout.runs ≡ before.seat.desk.layout.runs))
+    ⊎ ((pages ≡ pages_for bytes) × IsAreaNeeded before after.seat.desk.layout.runs)

@@ -1,0 +1,5 @@
+pub mod FreeLemmas
+pub mod KeepLemmas
+pub mod SendLemmas
+pub mod SlotLemmas
+pub mod StayLemmas

@@ -1,0 +1,5 @@
+pub mod Causes
+pub mod Freeing
+pub mod Keeps
+pub mod Sending
+pub mod Tests

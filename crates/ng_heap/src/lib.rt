@@ -1,0 +1,17 @@
+//! A heap over the space: blocks given and taken back, under the core's lock or without it.
+#![tactic(auto)]
+
+mod freeing;
+mod heap;
+mod malloc;
+mod sending;
+
+pub use freeing::Unlocked;
+pub use heap::Heap;
+pub use ng_frame::Damage;
+pub use ng_mask::Needs;
+pub use ng_terms::AllocRefusal;
+pub use sending::Parcel;
+
+#[cfg(test)]
+mod tests;

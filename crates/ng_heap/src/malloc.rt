@@ -1,0 +1,128 @@
+// Blocks that are given.
+ghost use Rattle.std.specs.Prelude.{◌≡◌, ◌+◌, ◌++◌, ◌<◌, ◌≤◌, ◌↔◌, ◌∷◌, [], Err, IfErr, IfOk, OnOk};
+ghost use Rattle.ng_group.specs.Hands.{GainsExcuse};
+ghost use Rattle.ng_group.specs.Steps.{Came, GoesOn};
+ghost use Rattle.ng_heap.specs.Causes.{BuildsFor, HasRefusalCause, IsGivenNow};
+ghost use Rattle.ng_heap.specs.Keeps.{IsFresh, KeepsAll, KeepsFrames, KeepsRest};
+ghost use Rattle.ng_space.specs.Blocks.{HasFramed, OfSlot, Serves};
+ghost use Rattle.ng_space.specs.Passed.{HasExcuse};
+ghost use Rattle.ng_space.specs.Tokens.{HasSlot};
+ghost use Rattle.ng_view.specs.Steps.{without_one};
+ghost use Rattle.ng_terms.specs.Heap.{IsTooLarge, large};
+ghost use Rattle.ng_terms.specs.Histories.{refusal_entry};
+ghost use Rattle.ng_terms.specs.declared.entry.Entry.TheVariants.{Give};
+ghost use Rattle.ng_terms.specs.declared.refusal.AllocRefusal.TheVariants as refusal;
+
+use crate::heap::Heap;
+use ng_class::THRESHOLD;
+use ng_frame::put;
+use ng_group::Core;
+use ng_history::{Entry, LARGE};
+use ng_mapper::Mapper;
+use ng_policy::Rules;
+use ng_space::{Block, Excuse, Hand, Name, Slot};
+use ng_terms::AllocRefusal;
+
+impl<N: Name> Heap<N> {
+    /// Gives a block of `n` bytes, aligned to 16, under the core's lock. The request is entered, also where it is refused.
+    pub fn malloc_in<M: Mapper, P: Rules>(
+        &self,
+        core: &mut Core<N, M, P>,
+        hand: &mut Hand<N>,
+        n: u64,
+    ) -> Result<Block<N>, AllocRefusal>
+        requires spare { 1 ≤ hand.old.spare }
+
+        // The block is framed and alone in its slot, which is of the class that was chosen for it, and what was built
+        // was wanted for it.
+        ensures framed { IfOk result (HasFramed hand.new) }
+        ensures len { IfOk result (λ block. block.len ≡ n) }
+        ensures align { IfOk result (λ block. block.align ≡ 16) }
+        ensures fresh { IfOk result (λ block. IsFresh hand.old block.slot) }
+        ensures builds { IfOk result (λ block. BuildsFor (P.count_gives core.old.rules) core.old core.new n hand.new block.slot) }
+        ensures given { IfOk result (λ block. IsGivenNow hand.old.view block core.new.counter hand.new) }
+        ensures entered { IfOk result (λ block. hand.new.entries ≡ hand.old.entries ++ Give n 16 block.at ∷ []) }
+        ensures calm { OnOk result (M.refused core.new.mapper ≡ M.refused core.old.mapper) }
+
+        ensures large { (result ≡ Err refusal.TooLarge) ↔ IsTooLarge 1 n 16 }
+        ensures cause { IfErr result (HasRefusalCause (P.count_gives core.old.rules) M.refused core.old core.new n) }
+        ensures refused { IfErr result (λ why. hand.new.entries ≡ hand.old.entries ++ refusal_entry n why ∷ []) }
+
+        // What the hand and the core have besides.
+        ensures kept { KeepsAll hand.old hand.new }
+        ensures frames { KeepsFrames hand.old hand.new }
+        ensures rest { KeepsRest hand.old.view hand.new.view }
+        ensures spare { hand.new.spare + 1 ≡ hand.old.spare }
+        ensures on { GoesOn core.old.seat core.new.seat }
+        ensures rules { core.new.rules ≡ core.old.rules }
+    {
+        if n >= LARGE {
+            self.space.enter(
+                hand,
+                Entry::TooLarge {
+                    count: 1,
+                    size: n,
+                    align: 16,
+                },
+            );
+            return Err(AllocRefusal::TooLarge);
+        }
+        match self.slot_for(core, hand, n) {
+            Ok(slot) => Ok(put(&self.space, hand, slot, n, core.counter())),
+            Err(excuse) => Err(self.refuse(hand, n, excuse)),
+        }
+    }
+
+    // Gets a slot for a block of n bytes: that of a group by itself, or one of the class that the core chooses.
+    fn slot_for<M: Mapper, P: Rules>(
+        &self,
+        core: &mut Core<N, M, P>,
+        hand: &mut Hand<N>,
+        n: u64,
+    ) -> Result<Slot<N>, Excuse<N>>
+        requires small { n < large }
+        ensures builds { IfOk result (BuildsFor (P.count_gives core.old.rules) core.old core.new n hand.new) }
+        ensures serves { IfOk result (λ slot. OfSlot hand.new slot (Serves n 16)) }
+        ensures roomy { IfOk result (λ slot. n + 4 ≤ slot.room) }
+        ensures has { IfOk result (HasSlot hand.new) }
+        ensures fresh { IfOk result (IsFresh hand.old) }
+        ensures calm { OnOk result (M.refused core.new.mapper ≡ M.refused core.old.mapper) }
+        ensures cause { IfErr result (λ excuse. HasRefusalCause (P.count_gives core.old.rules) M.refused core.old core.new n (refusal.NoMemory excuse.number)) }
+        ensures excuse { IfErr result (HasExcuse hand.new) }
+        ensures excused { IfErr result (λ excuse. GainsExcuse excuse.number hand.old.view hand.new.view) }
+        ensures excuses { OnOk result (hand.new.view.excuses ≡ hand.old.view.excuses) }
+        ensures sent { hand.new.view.sent ≡ hand.old.view.sent }
+        ensures taken { hand.new.view.taken ≡ hand.old.view.taken }
+        ensures came { Came hand.old.view hand.new.view }
+        ensures kept { KeepsAll hand.old hand.new }
+        ensures frames { KeepsFrames hand.old hand.new }
+        ensures spare { hand.new.spare ≡ hand.old.spare }
+        ensures entries { hand.new.entries ≡ hand.old.entries }
+        ensures on { GoesOn core.old.seat core.new.seat }
+        ensures rules { core.new.rules ≡ core.old.rules }
+    {
+        if n >= THRESHOLD {
+            return core.alloc_lone(&self.space, hand, n);
+        }
+        let class = core.class_for(&self.space, n);
+        core.alloc_slot(&self.space, hand, class, n)
+    }
+
+    // Enters a request as out of memory, with the excuse of its refused map call.
+    fn refuse(&self, hand: &mut Hand<N>, n: u64, excuse: Excuse<N>) -> AllocRefusal
+        requires spare { 1 ≤ hand.old.spare }
+        requires excuse { HasExcuse hand.old excuse }
+        ensures why { result ≡ refusal.NoMemory excuse.number }
+        ensures entries { hand.new.entries ≡ hand.old.entries ++ refusal_entry n result ∷ [] }
+        ensures excuses { hand.new.view.excuses ≡ without_one excuse.number hand.old.view.excuses }
+        ensures sent { hand.new.view.sent ≡ hand.old.view.sent }
+        ensures taken { hand.new.view.taken ≡ hand.old.view.taken }
+        ensures kept { KeepsAll hand.old hand.new }
+        ensures frames { KeepsFrames hand.old hand.new }
+        ensures spare { hand.new.spare + 1 ≡ hand.old.spare }
+    {
+        let number = excuse.number();
+        self.space.enter_no_memory(hand, n, excuse);
+        AllocRefusal::NoMemory { excuse: number }
+    }
+}

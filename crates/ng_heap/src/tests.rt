@@ -1,0 +1,257 @@
+// Blocks that come and go over musl's rules, and a mapper that gives the lowest runs.
+ghost use Rattle.std.specs.Prelude.{◌≡◌, ◌∷◌, [], IfOk};
+ghost use Rattle.ng_group.specs.Tests.{AreParts};
+ghost use Rattle.ng_heap.specs.Keeps.{IsFresh, KeepsAll, KeepsOthers};
+ghost use Rattle.ng_heap.specs.Tests.{MayClose};
+ghost use Rattle.ng_policy.specs.Ask.{AskInRange, IsCount};
+ghost use Rattle.ng_space.specs.Blocks.{HasBlock};
+ghost use Rattle.ng_terms.specs.Heap.{empty};
+ghost use Rattle.ng_view.specs.declared.view.View.{View};
+
+use crate::{AllocRefusal, Heap, Needs, Unlocked};
+use ng_group::{Core, Tables};
+use ng_history::{Entry, Live};
+use ng_mapper::FirstFit;
+use ng_policy::{Ask, Kept, Policy, Rules, Spare, musl_count, musl_keep};
+use ng_space::{Blank, Block, Hand, Host, Name, Start};
+use std::alloc::Global;
+use std::marker::Brand;
+use std::process::Abort;
+use std::test::Fail;
+
+const PAGES: u32 = 4096;
+
+const ROOM: u64 = 2000;
+
+// The memory of a heap with one hand and of its core, and a mapper that refuses no call.
+fn parts(alloc: Global) -> Result<(Blank, Tables, FirstFit), Host>
+    ensures parts { IfOk result (λ made. AreParts made.0 made.1 made.2) }
+    ensures rooms { IfOk result (λ made. made.0.rooms ≡ ROOM ∷ []) }
+{
+    let start = Start {
+        pages: u64::from(PAGES),
+        lower: 0x1000,
+        upper: 0x100_0000,
+        secret: 0x0123_4567_89ab_cdef,
+        refusals: 0,
+        cap: 0,
+    };
+    let blank = Blank::new(alloc, start, &[ROOM])?;
+    let tables = Tables::new(alloc, PAGES)?;
+    let mapper = FirstFit::new(alloc, PAGES, Vec::new(alloc))?;
+    Ok((blank, tables, mapper))
+}
+
+// The heap, its core and its hand.
+fn begin<N: Name, P: Rules + Drop>(
+    alloc: Global,
+    blank: Blank,
+    tables: Tables,
+    mapper: FirstFit,
+    rules: P,
+) -> Result<(Heap<N>, Core<N, FirstFit, P>, Hand<N>), Host>
+    requires table { blank.table ≡ N.table }
+    requires start { blank.start ≡ N.start }
+    requires parts { AreParts blank tables mapper }
+    requires rooms { blank.rooms ≡ ROOM ∷ [] }
+    requires good { P.good rules }
+    ensures closes { IfOk result (λ made. MayClose made.1.seat made.2) }
+{
+    match Heap::<N>::open(alloc, blank, tables, mapper, Kept::new(rules)) {
+        Ok((heap, core, mut hands)) => {
+            let Some(hand) = hands.pop() else {
+                unreachable!()
+            };
+            Ok((heap, core, hand))
+        }
+        Err((_, host)) => Err(host),
+    }
+}
+
+// The choices of musl.
+fn count(ask: Ask) -> u32
+    requires { AskInRange ask }
+    ensures { IsCount ask.class result }
+{
+    musl_count(ask)
+}
+
+fn keep(spare: Spare) -> bool {
+    musl_keep(spare)
+}
+
+// A block of n bytes, which begins there.
+fn given<N: Name, P: Rules, R: Abort>(
+    rt: &R,
+    heap: &Heap<N>,
+    core: &mut Core<N, FirstFit, P>,
+    hand: &mut Hand<N>,
+    n: u64,
+    at: u64,
+) -> Block<N>
+    requires closes { MayClose core.old.seat hand.old }
+    ensures block { HasBlock hand.new result }
+    ensures fresh { IsFresh hand.old result.slot }
+    ensures kept { KeepsAll hand.old hand.new }
+    ensures closes { MayClose core.new.seat hand.new }
+{
+    assert!(rt; hand.spare() > 0);
+    match heap.malloc_in(core, hand, n) {
+        Ok(block) => {
+            assert_eq!(rt; block.at(), at);
+            block
+        }
+        Err(_why) => panic!(rt; "no block"),
+    }
+}
+
+// A block is freed, whose slot is the first that is freed of its group and is settled under the lock.
+fn frees_first<N: Name, P: Rules, R: Abort>(
+    rt: &R,
+    heap: &Heap<N>,
+    core: &mut Core<N, FirstFit, P>,
+    hand: &mut Hand<N>,
+    block: Block<N>,
+)
+    requires closes { MayClose core.old.seat hand.old }
+    requires block { HasBlock hand.old block }
+    ensures others { KeepsOthers block.slot hand.old hand.new }
+    ensures closes { MayClose core.new.seat hand.new }
+{
+    assert!(rt; hand.spare() > 0);
+    match heap.free_unlocked(hand, block) {
+        Ok(Unlocked::Left(slot, Needs::First)) => heap.settle_in(core, hand, slot),
+        _other => panic!(rt; "not left as the first"),
+    }
+}
+
+// A block is freed, whose slot goes into the freed mask of its group at once.
+fn frees_at_once<N: Name, R: Abort>(rt: &R, heap: &Heap<N>, hand: &mut Hand<N>, block: Block<N>)
+    requires block { HasBlock hand.old block }
+    ensures closes { (seat : View) → MayClose seat hand.old → MayClose seat hand.new }
+{
+    assert!(rt; hand.spare() > 0);
+    match heap.free_unlocked(hand, block) {
+        Ok(Unlocked::Done) => {}
+        _other => panic!(rt; "not in the freed mask"),
+    }
+}
+
+// Each entry is a legal step from where the ones before it lead.
+fn assert_legal<R: Abort>(rt: &R, live: &mut Live, entries: &[Entry])
+    requires live { live.old.state ≡ empty }
+    requires room { live.old.room ≡ ROOM }
+{
+    assert!(rt; entries.len() <= 2000);
+    for entry in entries {
+        assert!(rt; live.step(entry, 0x100_0000), "{entry:?}");
+    }
+}
+
+// The heap ends, with so many entries in the book of its hand.
+fn end<N: Name, P: Rules + Drop, R: Abort>(
+    rt: &R,
+    alloc: Global,
+    heap: Heap<N>,
+    core: Core<N, FirstFit, P>,
+    hand: Hand<N>,
+    entries: usize,
+) -> Result<(), Fail>
+    requires closes { MayClose core.seat hand }
+{
+    let (image, books, _mapper) = heap.close(core, vec![in alloc; hand]?);
+    assert_eq!(rt; image.pages(), PAGES);
+    assert_eq!(rt; books.len(), 1);
+    assert_eq!(rt; books[0].entries().len(), entries);
+    Ok(())
+}
+
+#[test]
+fn slots_are_freed_first_and_at_once(rt: HostRuntime) -> Result<(), Fail> {
+    let alloc = rt.alloc();
+    let (blank, tables, mapper) = parts(alloc)?;
+    let rules = Policy::new(count, keep);
+    free_three::<Brand, _, _>(&rt, alloc, blank, tables, mapper, rules)
+}
+
+fn free_three<N: Name, P: Rules + Drop, R: Abort>(
+    rt: &R,
+    alloc: Global,
+    blank: Blank,
+    tables: Tables,
+    mapper: FirstFit,
+    rules: P,
+) -> Result<(), Fail>
+    requires table { blank.table ≡ N.table }
+    requires start { blank.start ≡ N.start }
+    requires parts { AreParts blank tables mapper }
+    requires rooms { blank.rooms ≡ ROOM ∷ [] }
+    requires good { P.good rules }
+{
+    let mut live = Live::open(alloc, ROOM)?;
+    let (heap, mut core, mut hand) = begin::<N, P>(alloc, blank, tables, mapper, rules)?;
+    let first = given(rt, &heap, &mut core, &mut hand, 61, 0x2050);
+    let second = given(rt, &heap, &mut core, &mut hand, 61, 0x20b0);
+    let third = given(rt, &heap, &mut core, &mut hand, 61, 0x2110);
+    let fourth = given(rt, &heap, &mut core, &mut hand, 61, 0x2170);
+    let fifth = given(rt, &heap, &mut core, &mut hand, 61, 0x21d0);
+    frees_first(rt, &heap, &mut core, &mut hand, first);
+    let sixth = given(rt, &heap, &mut core, &mut hand, 61, 0x2040);
+    frees_first(rt, &heap, &mut core, &mut hand, second);
+    frees_at_once(rt, &heap, &mut hand, third);
+    assert_legal(rt, &mut live, hand.entries());
+    hand.leave(fourth);
+    hand.leave(fifth);
+    hand.leave(sixth);
+    end(rt, alloc, heap, core, hand, 9)
+}
+
+#[test]
+fn large_blocks_have_runs_of_their_own(rt: HostRuntime) -> Result<(), Fail> {
+    let alloc = rt.alloc();
+    let (blank, tables, mapper) = parts(alloc)?;
+    let rules = Policy::new(count, keep);
+    give_large::<Brand, _, _>(&rt, alloc, blank, tables, mapper, rules)
+}
+
+// The last size that a class serves, the first that is a group by itself, and one that is too large.
+fn give_large<N: Name, P: Rules + Drop, R: Abort>(
+    rt: &R,
+    alloc: Global,
+    blank: Blank,
+    tables: Tables,
+    mapper: FirstFit,
+    rules: P,
+) -> Result<(), Fail>
+    requires table { blank.table ≡ N.table }
+    requires start { blank.start ≡ N.start }
+    requires parts { AreParts blank tables mapper }
+    requires rooms { blank.rooms ≡ ROOM ∷ [] }
+    requires good { P.good rules }
+{
+    let (heap, mut core, mut hand) = begin::<N, P>(alloc, blank, tables, mapper, rules)?;
+    let first = given(rt, &heap, &mut core, &mut hand, 131_051, 0x2010);
+    let second = given(rt, &heap, &mut core, &mut hand, 131_052, 0x22010);
+    assert_eq!(rt; core.live_pages(), 65);
+    hand.leave(first);
+    hand.leave(second);
+    refuse_largest(rt, &heap, &mut core, &mut hand);
+    end(rt, alloc, heap, core, hand, 3)
+}
+
+// The largest size of all is too large.
+fn refuse_largest<N: Name, P: Rules, R: Abort>(
+    rt: &R,
+    heap: &Heap<N>,
+    core: &mut Core<N, FirstFit, P>,
+    hand: &mut Hand<N>,
+)
+    requires closes { MayClose core.old.seat hand.old }
+    ensures closes { MayClose core.new.seat hand.new }
+{
+    assert!(rt; hand.spare() > 0);
+    match heap.malloc_in(core, hand, u64::MAX) {
+        Err(why) => assert_eq!(rt; why, AllocRefusal::TooLarge),
+        Ok(_block) => panic!(rt; "a block without end"),
+    }
+}

@@ -1,0 +1,45 @@
+-- What an op tells of its hand.
+use Rattle.std.proofs.lemmas.Grind.{common_steps}
+use Rattle.std.proofs.Common.{append_assoc, cond, eqb, false, ◌≡◌, ◌≢◌, ℕ, List, [], ◌∷◌, ◌++◌, Option, Some, None, IfSome}
+use Rattle.std.proofs.Common.{arith, ap, sym, ◌∙◌, subst, ⊎_elim, inl, inr}
+use Rattle.ng_frame.specs.Framed.{AreFramed}
+use Rattle.ng_group.specs.Hands.{IsApart}
+use Rattle.ng_heap.specs.Keeps.{IsFresh, KeepsFrames}
+use Rattle.ng_space.specs.Blocks.{BlockToken, HasFramed}
+use Rattle.ng_space.specs.Callers.{Caller}
+use Rattle.ng_space.specs.Tokens.{Token}
+use Rattle.ng_terms.specs.declared.entry.Entry.{Entry}
+use Rattle.ng_terms.specs.declared.entry.Entry.TheVariants.{Give, Resize, Take}
+use Rattle.ng_replay.specs.Serving.{IsApartFrom}
+
+pub IsApart-flip : (slot other : Token) → IsApart slot other → IsApart other slot
+IsApart-flip slot other apart = ⊎_elim (λ meta. inl (λ e. meta (sym e))) (λ index. inr (λ e. index (sym e))) apart
+
+-- a fresh block is apart from each that the hand had
+pub IsApartFrom-fresh : (before : Caller) (made : Option BlockToken) (other : BlockToken) → IfSome made (λ block. IsFresh before block.slot)
+    → HasFramed before other → IsApartFrom made other
+IsApartFrom-fresh before None other fresh had = tt
+IsApartFrom-fresh before (Some block) other fresh had = fresh.blocks other had.has
+
+pub KeepsFrames-then : (one two three : Caller) → KeepsFrames one two → KeepsFrames two three → KeepsFrames one three
+KeepsFrames-then one two three first second = record {
+  number = second.number ∙ first.number;
+  each = λ framed. second.each (first.each framed);
+}
+
+pub KeepsFrames-same : (before after : Caller) → after ≡ before → KeepsFrames before after
+KeepsFrames-same before after same = record {
+  number = ap (λ (hand : Caller). hand.number) same;
+  each = λ framed. subst (λ (hand : Caller). AreFramed hand.view) (sym same) framed;
+}
+
+-- the entries of a move from one address to another
+pub entries-moved : (before between now : List Entry) (size at old made source : ℕ) → at ≡ made → old ≡ source → source ≢ made
+    → between ≡ before ++ Give size 16 made ∷ [] → now ≡ between ++ Take source ∷ []
+    → now ≡ before ++ cond (eqb old at) (Resize at size ∷ []) (Give size 16 at ∷ Take old ∷ [])
+entries-moved before between now size at old made source at_is old_is apart given taken =
+    let other : old ≢ at = λ same. apart (sym old_is ∙ same ∙ at_is) in
+    let differ : eqb old at ≡ false = grind (arith, common_steps) in
+    let first : between ≡ before ++ Give size 16 at ∷ [] = rw at_is given in
+    let then : now ≡ between ++ Take old ∷ [] = rw old_is taken in
+    rw differ (rw first at then ∙ append_assoc before (Give size 16 at ∷ []) (Take old ∷ []))

@@ -1,4 +1,0 @@
-pub mod Plain
-pub mod Slots
-pub mod Tables
-pub mod Sound
