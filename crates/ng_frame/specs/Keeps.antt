@@ -40,17 +40,19 @@ pub record KeepsRest (v w : View) : Type 0 where
   pub more : List (ℕ × ℕ)
   pub readings : w.readings ≡ v.readings ++ more
 
--- each other slot is there, with the same place and block, and at least the same known cells, and none has come
+-- each slot is there, with the same place and block, and at least the same known cells
+abbrev pub KeepsSlots : View → View → Type 0
+KeepsSlots v w = (m i : ℕ) → Stays m i v w Learns
+
+-- each slot but that of the token is there so, and no other has come
 pub record KeepsOthers (slot : Token) (v w : View) : Type 0 where
   pub slots : (m i : ℕ) → IsOther slot m i → Stays m i v w Learns
   pub back : (m i : ℕ) → IsOther slot m i → CameFrom m i v w Learns
-  pub rest : KeepsRest v w
 
--- so it is of every slot
+-- each slot is there so, and none has come
 pub record KeepsAll (v w : View) : Type 0 where
-  pub slots : (m i : ℕ) → Stays m i v w Learns
+  pub slots : KeepsSlots v w
   pub back : (m i : ℕ) → CameFrom m i v w Learns
-  pub rest : KeepsRest v w
 
 -- the slot begins and ends at cells, and its room ends by the next header cell
 pub record IsWhole (slot : Token) : Type 0 where

@@ -3,7 +3,7 @@ ghost use Rattle.ng_space.specs.Blocks.{BlockToken, HasBlock, HasFramed};
 ghost use Rattle.ng_space.specs.Tokens.{HasSlot, Token};
 ghost use Rattle.ng_frame.specs.Framed.{AreFramed};
 ghost use Rattle.ng_frame.specs.Inspects.{Inspects};
-ghost use Rattle.ng_frame.specs.Keeps.{KeepsAll};
+ghost use Rattle.ng_frame.specs.Keeps.{KeepsAll, KeepsRest};
 
 use crate::words::{byte, read_words};
 use ng_header::{nominal, reserved_of};
@@ -30,6 +30,7 @@ pub fn find_damage<N: Name>(
 
     // What the hand has stays.
     ensures kept { KeepsAll hand.old.view hand.new.view }
+    ensures rest { KeepsRest hand.old.view hand.new.view }
     ensures slots { (slot : Token) → HasSlot hand.old slot → HasSlot hand.new slot }
     ensures blocks { (other : BlockToken) → HasBlock hand.old other → HasBlock hand.new other }
     ensures frames { (other : BlockToken) → HasFramed hand.old other → HasFramed hand.new other }

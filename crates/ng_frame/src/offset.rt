@@ -3,7 +3,8 @@ ghost use Rattle.std.specs.Prelude.{◌≡◌, ◌+◌, ◌*◌, ◌<◌, ◌≤
 ghost use Rattle.ng_view.specs.Frame.{IsShift, field_of};
 ghost use Rattle.ng_space.specs.Blocks.{OfSlot, offset_in};
 ghost use Rattle.ng_space.specs.Tokens.{HasSlot};
-ghost use Rattle.ng_frame.specs.Keeps.{IsWhole, KeepsCells, KeepsOthers, Learns, Stays};
+ghost use Rattle.ng_frame.specs.Framed.{AreFramed};
+ghost use Rattle.ng_frame.specs.Keeps.{IsWhole, KeepsCells, KeepsOthers, KeepsRest, Learns, Stays};
 ghost use Rattle.ng_frame.specs.Puts.{Cycles};
 
 use ng_header::cycle;
@@ -30,6 +31,8 @@ pub(crate) fn cycled_offset<N: Name>(
     ensures slot { HasSlot hand.new slot.now }
     ensures own { Stays slot.now.meta slot.now.index hand.old.view hand.new.view Learns }
     ensures others { KeepsOthers slot.now hand.old.view hand.new.view }
+    ensures rest { KeepsRest hand.old.view hand.new.view }
+    ensures each { AreFramed hand.old.view → AreFramed hand.new.view }
     ensures number { hand.new.number ≡ hand.old.number }
     ensures spare { hand.new.spare ≡ hand.old.spare }
     ensures entries { hand.new.entries ≡ hand.old.entries }
@@ -63,6 +66,8 @@ pub(crate) fn store_mark<N: Name>(space: &Space<N>, hand: &mut Hand<N>, slot: &S
     ensures slot { HasSlot hand.new slot.now }
     ensures own { Stays slot.now.meta slot.now.index hand.old.view hand.new.view (KeepsCells (λ a. slot.now.start ≤ a)) }
     ensures others { KeepsOthers slot.now hand.old.view hand.new.view }
+    ensures rest { KeepsRest hand.old.view hand.new.view }
+    ensures each { AreFramed hand.old.view → AreFramed hand.new.view }
     ensures number { hand.new.number ≡ hand.old.number }
     ensures spare { hand.new.spare ≡ hand.old.spare }
     ensures entries { hand.new.entries ≡ hand.old.entries }

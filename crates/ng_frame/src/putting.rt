@@ -1,9 +1,9 @@
-ghost use Rattle.std.specs.Prelude.{◌≡◌, ◌+◌, ◌≤◌, ◌++◌, ◌∷◌, []};
+ghost use Rattle.std.specs.Prelude.{◌≡◌, ◌≢◌, ◌+◌, ◌≤◌, ◌++◌, ◌∷◌, []};
 ghost use Rattle.ng_terms.specs.declared.entry.Entry.TheVariants.{Give};
 ghost use Rattle.ng_space.specs.Blocks.{BlockToken, HasBlock, HasFramed, OfSlot, Serves};
-ghost use Rattle.ng_space.specs.Tokens.{HasSlot, Token};
+ghost use Rattle.ng_space.specs.Tokens.{HasSlot};
 ghost use Rattle.ng_frame.specs.Framed.{AreFramed};
-ghost use Rattle.ng_frame.specs.Keeps.{IsOther, KeepsOthers, LiesStill, Stays};
+ghost use Rattle.ng_frame.specs.Keeps.{KeepsOthers, KeepsRest, LiesStill, Stays};
 ghost use Rattle.ng_frame.specs.Puts.{Puts};
 
 use crate::offset::{cycled_offset, store_mark};
@@ -31,17 +31,13 @@ pub fn put<N: Name>(
     ensures align { result.align ≡ 16 }
     ensures framed { HasFramed hand.new result }
     ensures puts { Puts hand.old result counter hand.new }
+    ensures apart { (other : BlockToken) → HasBlock hand.old other → other.at ≢ result.at }
     ensures still { Stays slot.meta slot.index hand.old.view hand.new.view LiesStill }
     ensures entries { hand.new.entries ≡ hand.old.entries ++ Give n 16 result.at ∷ [] }
 
     // What the hand has besides.
     ensures others { KeepsOthers slot hand.old.view hand.new.view }
-    ensures slots { (other : Token) → IsOther slot other.meta other.index
-        → HasSlot hand.old other → HasSlot hand.new other }
-    ensures blocks { (other : BlockToken) → IsOther slot other.slot.meta other.slot.index
-        → HasBlock hand.old other → HasBlock hand.new other }
-    ensures frames { (other : BlockToken) → IsOther slot other.slot.meta other.slot.index
-        → HasFramed hand.old other → HasFramed hand.new other }
+    ensures rest { KeepsRest hand.old.view hand.new.view }
     ensures each { AreFramed hand.old.view → AreFramed hand.new.view }
     ensures spare { hand.new.spare + 1 ≡ hand.old.spare }
     ensures number { hand.new.number ≡ hand.old.number }

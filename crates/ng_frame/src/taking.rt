@@ -1,10 +1,10 @@
 ghost use Rattle.std.specs.Prelude.{◌≡◌, ◌+◌, ◌≤◌, ◌++◌, ◌∷◌, [], IfErr, IfOk, IsOk, Some};
 ghost use Rattle.ng_terms.specs.declared.entry.Entry.TheVariants.{Take};
-ghost use Rattle.ng_space.specs.Blocks.{BlockToken, HasBlock, HasFramed};
-ghost use Rattle.ng_space.specs.Tokens.{HasSlot, Token};
+ghost use Rattle.ng_space.specs.Blocks.{HasBlock, HasFramed};
+ghost use Rattle.ng_space.specs.Tokens.{HasSlot};
 ghost use Rattle.ng_frame.specs.Framed.{AreFramed};
 ghost use Rattle.ng_frame.specs.Inspects.{Inspects, Takes};
-ghost use Rattle.ng_frame.specs.Keeps.{IsOther, KeepsAll, KeepsOthers};
+ghost use Rattle.ng_frame.specs.Keeps.{KeepsAll, KeepsOthers, KeepsRest};
 
 use crate::damage::{Damage, find_damage};
 use ng_space::{Block, Hand, Name, Slot, Space};
@@ -36,12 +36,7 @@ pub fn take_out<N: Name>(
 
     // What the hand has besides.
     ensures others { KeepsOthers block.slot hand.old.view hand.new.view }
-    ensures slots { (other : Token) → IsOther block.slot other.meta other.index
-        → HasSlot hand.old other → HasSlot hand.new other }
-    ensures blocks { (other : BlockToken) → IsOther block.slot other.slot.meta other.slot.index
-        → HasBlock hand.old other → HasBlock hand.new other }
-    ensures frames { (other : BlockToken) → IsOther block.slot other.slot.meta other.slot.index
-        → HasFramed hand.old other → HasFramed hand.new other }
+    ensures rest { KeepsRest hand.old.view hand.new.view }
     ensures each { AreFramed hand.old.view → AreFramed hand.new.view }
     ensures number { hand.new.number ≡ hand.old.number }
 {

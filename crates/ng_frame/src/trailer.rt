@@ -4,7 +4,8 @@ ghost use Rattle.ng_header.specs.Bytes.{byte_of};
 ghost use Rattle.ng_view.specs.Frame.{IsTrailer, KnowsByte};
 ghost use Rattle.ng_space.specs.Blocks.{OfSlot};
 ghost use Rattle.ng_space.specs.Tokens.{HasSlot};
-ghost use Rattle.ng_frame.specs.Keeps.{IsWhole, KeepsCells, KeepsOthers, Stays};
+ghost use Rattle.ng_frame.specs.Framed.{AreFramed};
+ghost use Rattle.ng_frame.specs.Keeps.{IsWhole, KeepsCells, KeepsOthers, KeepsRest, Stays};
 
 use ng_space::{Hand, Name, Slot, Space};
 
@@ -23,6 +24,8 @@ pub(crate) fn store_trailer<N: Name>(
     ensures slot { HasSlot hand.new slot.now }
     ensures own { Stays slot.now.meta slot.now.index hand.old.view hand.new.view (KeepsCells (λ a. a < slot.now.start)) }
     ensures others { KeepsOthers slot.now hand.old.view hand.new.view }
+    ensures rest { KeepsRest hand.old.view hand.new.view }
+    ensures each { AreFramed hand.old.view → AreFramed hand.new.view }
     ensures number { hand.new.number ≡ hand.old.number }
     ensures spare { hand.new.spare ≡ hand.old.spare }
     ensures entries { hand.new.entries ≡ hand.old.entries }
@@ -49,6 +52,8 @@ fn clear_byte<N: Name>(space: &Space<N>, hand: &mut Hand<N>, slot: &Slot<N>, at:
     ensures slot { HasSlot hand.new slot.now }
     ensures own { Stays slot.now.meta slot.now.index hand.old.view hand.new.view (KeepsCells (λ a. a ≢ 4 * (at / 4))) }
     ensures others { KeepsOthers slot.now hand.old.view hand.new.view }
+    ensures rest { KeepsRest hand.old.view hand.new.view }
+    ensures each { AreFramed hand.old.view → AreFramed hand.new.view }
     ensures number { hand.new.number ≡ hand.old.number }
     ensures spare { hand.new.spare ≡ hand.old.spare }
     ensures entries { hand.new.entries ≡ hand.old.entries }

@@ -1,5 +1,4 @@
 pub mod Causes
 pub mod Freeing
 pub mod Keeps
-pub mod Sending
 pub mod Tests

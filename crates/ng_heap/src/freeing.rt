@@ -1,13 +1,15 @@
 // Blocks that are taken back.
-ghost use Rattle.std.specs.Prelude.{◌≡◌, ◌⊎◌, ◌+◌, ◌++◌, ◌≤◌, ◌∷◌, [], IfErr, IfOk, IsOk, OnOk, Some};
+ghost use Rattle.std.specs.Prelude.{◌≡◌, ◌+◌, ◌++◌, ◌≤◌, ◌∷◌, [], IfErr, IfOk, IsOk, OnOk, Some};
 ghost use Rattle.ng_frame.specs.Inspects.{Inspects};
+ghost use Rattle.ng_frame.specs.Keeps.{KeepsAll, KeepsOthers, KeepsRest};
 ghost use Rattle.ng_group.specs.Returning.{ReturnsOfHand};
 ghost use Rattle.ng_group.specs.Steps.{GoesOn};
-ghost use Rattle.ng_heap.specs.Freeing.{FreesUnlocked, OnLeft};
-ghost use Rattle.ng_heap.specs.Keeps.{KeepsFrames, KeepsOthers, KeepsRest};
+ghost use Rattle.ng_heap.specs.Freeing.{FreesIn, FreesUnlocked, OnLeft};
+ghost use Rattle.ng_heap.specs.Keeps.{KeepsFrames};
 ghost use Rattle.ng_space.specs.Blocks.{HasBlock, HasFramed};
 ghost use Rattle.ng_space.specs.Tokens.{HasSlot};
 ghost use Rattle.ng_terms.specs.declared.entry.Entry.TheVariants.{Take};
+ghost use Rattle.ng_view.specs.Steps.{pushed};
 
 use crate::heap::Heap;
 use ng_frame::{Damage, take_out};
@@ -47,14 +49,13 @@ impl<N: Name> Heap<N> {
         ensures still { IfErr result (λ left. HasBlock hand.new left.0) }
         ensures unspent { IfErr result (λ left. hand.new.spare ≡ hand.old.spare) }
         ensures none { IfErr result (λ left. hand.new.entries ≡ hand.old.entries) }
+        ensures kept { IfErr result (λ left. KeepsAll hand.old.view hand.new.view) }
 
-        ensures others { KeepsOthers block.slot hand.old hand.new }
-        ensures frames { KeepsFrames hand.old hand.new }
+        ensures others { KeepsOthers block.slot hand.old.view hand.new.view }
         ensures rest { KeepsRest hand.old.view hand.new.view }
+        ensures frames { KeepsFrames hand.old hand.new }
     {
         let slot = take_out(&self.space, hand, block)?;
-        // A load tells that no slot is twice in the hand.
-        self.space.load(hand, 0);
         match push(&self.space, hand, slot) {
             Push::Done => Ok(Unlocked::Done),
             Push::Left(slot, needs) => Ok(Unlocked::Left(slot, needs)),
@@ -80,12 +81,13 @@ impl<N: Name> Heap<N> {
         ensures still { IfErr result (λ left. HasBlock hand.new left.0) }
         ensures unspent { IfErr result (λ left. hand.new.spare ≡ hand.old.spare) }
         ensures none { IfErr result (λ left. hand.new.entries ≡ hand.old.entries) }
+        ensures kept { IfErr result (λ left. KeepsAll hand.old.view hand.new.view) }
         ensures unchanged { IfErr result (λ left. core.new ≡ core.old) }
-        ensures returns { OnOk result ((core.new ≡ core.old) ⊎ ReturnsOfHand (P.keep_gives core.old.rules) M.runs core.old core.new block.slot.meta block.slot.index) }
+        ensures frees { OnOk result (FreesIn (P.keep_gives core.old.rules) M.runs hand.old block core.old core.new hand.new.view) }
 
-        ensures others { KeepsOthers block.slot hand.old hand.new }
-        ensures frames { KeepsFrames hand.old hand.new }
+        ensures others { KeepsOthers block.slot hand.old.view hand.new.view }
         ensures rest { KeepsRest hand.old.view hand.new.view }
+        ensures frames { KeepsFrames hand.old hand.new }
         ensures calm { M.refused core.new.mapper ≡ M.refused core.old.mapper }
         ensures on { GoesOn core.old.seat core.new.seat }
         ensures rules { core.new.rules ≡ core.old.rules }
@@ -106,17 +108,15 @@ impl<N: Name> Heap<N> {
     )
         requires slot { HasSlot hand.old slot }
         ensures returns { ReturnsOfHand (P.keep_gives core.old.rules) M.runs core.old core.new slot.meta slot.index }
-        ensures others { KeepsOthers slot hand.old hand.new }
+        ensures view { hand.new.view ≡ pushed hand.old.view slot.meta slot.index }
+        ensures others { KeepsOthers slot hand.old.view hand.new.view }
         ensures frames { KeepsFrames hand.old hand.new }
-        ensures rest { KeepsRest hand.old.view hand.new.view }
         ensures spare { hand.new.spare ≡ hand.old.spare }
         ensures entries { hand.new.entries ≡ hand.old.entries }
         ensures calm { M.refused core.new.mapper ≡ M.refused core.old.mapper }
         ensures on { GoesOn core.old.seat core.new.seat }
         ensures rules { core.new.rules ≡ core.old.rules }
     {
-        // As in `free_unlocked`.
-        self.space.load(hand, 0);
         core.return_slot(&self.space, hand, slot);
     }
 }

@@ -1,9 +1,8 @@
 // A heap's beginning and end.
-ghost use Rattle.std.specs.Prelude.{◌≡◌, All, IfErr, IfOk, length};
+ghost use Rattle.std.specs.Prelude.{◌≡◌, All, IfErr, IfOk, false, length};
 ghost use Rattle.ng_group.specs.Opening.{AreEmpty, IsFreshMapper, IsHandedBack};
-ghost use Rattle.ng_heap.specs.Keeps.{HasOwnBook};
 ghost use Rattle.ng_space.specs.Callers.{fresh_callers, opened};
-ghost use Rattle.ng_space.specs.Closings.{AreAll, AreFreeMetasBlank, AreRunsUsed, IsEven, books_of, views_of};
+ghost use Rattle.ng_space.specs.Closings.{AreAll, AreFreeMetasBlank, AreRunsUsed, HasOwnBook, IsEven, books_of, views_of};
 ghost use Rattle.ng_view.specs.Classes.{Classes};
 ghost use Rattle.ng_view.specs.Excuses.{Excuses};
 ghost use Rattle.ng_view.specs.History.{History};
@@ -80,21 +79,12 @@ impl<N: Name> Heap<N> {
         ensures pages { result.0.pages ≡ N.start.pages }
         ensures books { result.1.items ≡ books_of hands.items }
         ensures own { All HasOwnBook hands.items }
+        ensures whole { All (λ view. view.parcel ≡ false) (views_of core.seat hands.items) }
         ensures mapper { result.2 ≡ core.mapper }
         ensures left { IsHandedBack core.seat (M.runs core.mapper) (M.refused core.mapper) }
     {
-        know_books(hands.as_slice());
         let (seat, mapper) = core.close();
         let (image, books) = self.space.close(seat, hands);
         (image, books, mapper)
-    }
-}
-
-// That each hand's view has its book alone is told by its number.
-fn know_books<N: Name>(hands: &[Hand<N>])
-    ensures { All HasOwnBook hands.now }
-{
-    for hand in hands {
-        hand.number();
     }
 }

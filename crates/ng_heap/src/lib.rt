@@ -10,8 +10,8 @@ pub use freeing::Unlocked;
 pub use heap::Heap;
 pub use ng_frame::Damage;
 pub use ng_mask::Needs;
+pub use ng_space::Parcel;
 pub use ng_terms::AllocRefusal;
-pub use sending::Parcel;
 
 #[cfg(test)]
 mod tests;

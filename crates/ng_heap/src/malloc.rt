@@ -1,10 +1,11 @@
 // Blocks that are given.
-ghost use Rattle.std.specs.Prelude.{◌≡◌, ◌+◌, ◌++◌, ◌<◌, ◌≤◌, ◌↔◌, ◌∷◌, [], Err, IfErr, IfOk, OnOk};
+ghost use Rattle.std.specs.Prelude.{◌≡◌, ◌≢◌, ◌+◌, ◌++◌, ◌<◌, ◌≤◌, ◌↔◌, ◌∷◌, [], Err, IfErr, IfOk, OnOk};
+ghost use Rattle.ng_frame.specs.Keeps.{KeepsAll, KeepsOthers, KeepsRest, KeepsSlots};
 ghost use Rattle.ng_group.specs.Hands.{GainsExcuse};
 ghost use Rattle.ng_group.specs.Steps.{Came, GoesOn};
 ghost use Rattle.ng_heap.specs.Causes.{BuildsFor, HasRefusalCause, IsGivenNow};
-ghost use Rattle.ng_heap.specs.Keeps.{IsFresh, KeepsAll, KeepsFrames, KeepsRest};
-ghost use Rattle.ng_space.specs.Blocks.{HasFramed, OfSlot, Serves};
+ghost use Rattle.ng_heap.specs.Keeps.{IsFresh, KeepsFrames};
+ghost use Rattle.ng_space.specs.Blocks.{BlockToken, HasBlock, HasFramed, OfSlot, Serves};
 ghost use Rattle.ng_space.specs.Passed.{HasExcuse};
 ghost use Rattle.ng_space.specs.Tokens.{HasSlot};
 ghost use Rattle.ng_view.specs.Steps.{without_one};
@@ -39,6 +40,7 @@ impl<N: Name> Heap<N> {
         ensures len { IfOk result (λ block. block.len ≡ n) }
         ensures align { IfOk result (λ block. block.align ≡ 16) }
         ensures fresh { IfOk result (λ block. IsFresh hand.old block.slot) }
+        ensures apart { IfOk result (λ block. (other : BlockToken) → HasBlock hand.old other → other.at ≢ block.at) }
         ensures builds { IfOk result (λ block. BuildsFor (P.count_gives core.old.rules) core.old core.new n hand.new block.slot) }
         ensures given { IfOk result (λ block. IsGivenNow hand.old.view block core.new.counter hand.new) }
         ensures entered { IfOk result (λ block. hand.new.entries ≡ hand.old.entries ++ Give n 16 block.at ∷ []) }
@@ -48,10 +50,12 @@ impl<N: Name> Heap<N> {
         ensures cause { IfErr result (HasRefusalCause (P.count_gives core.old.rules) M.refused core.old core.new n) }
         ensures refused { IfErr result (λ why. hand.new.entries ≡ hand.old.entries ++ refusal_entry n why ∷ []) }
 
-        // What the hand and the core have besides.
-        ensures kept { KeepsAll hand.old hand.new }
-        ensures frames { KeepsFrames hand.old hand.new }
+        // What the hand and the core have besides: each slot and block, and what was known of its cells.
+        ensures others { IfOk result (λ block. KeepsOthers block.slot hand.old.view hand.new.view) }
+        ensures kept { IfErr result (λ why. KeepsAll hand.old.view hand.new.view) }
+        ensures slots { KeepsSlots hand.old.view hand.new.view }
         ensures rest { KeepsRest hand.old.view hand.new.view }
+        ensures frames { KeepsFrames hand.old hand.new }
         ensures spare { hand.new.spare + 1 ≡ hand.old.spare }
         ensures on { GoesOn core.old.seat core.new.seat }
         ensures rules { core.new.rules ≡ core.old.rules }
@@ -94,7 +98,9 @@ impl<N: Name> Heap<N> {
         ensures sent { hand.new.view.sent ≡ hand.old.view.sent }
         ensures taken { hand.new.view.taken ≡ hand.old.view.taken }
         ensures came { Came hand.old.view hand.new.view }
-        ensures kept { KeepsAll hand.old hand.new }
+        ensures others { IfOk result (λ slot. KeepsOthers slot hand.old.view hand.new.view) }
+        ensures kept { IfErr result (λ excuse. KeepsAll hand.old.view hand.new.view) }
+        ensures slots { KeepsSlots hand.old.view hand.new.view }
         ensures frames { KeepsFrames hand.old hand.new }
         ensures spare { hand.new.spare ≡ hand.old.spare }
         ensures entries { hand.new.entries ≡ hand.old.entries }
@@ -117,7 +123,7 @@ impl<N: Name> Heap<N> {
         ensures excuses { hand.new.view.excuses ≡ without_one excuse.number hand.old.view.excuses }
         ensures sent { hand.new.view.sent ≡ hand.old.view.sent }
         ensures taken { hand.new.view.taken ≡ hand.old.view.taken }
-        ensures kept { KeepsAll hand.old hand.new }
+        ensures kept { KeepsAll hand.old.view hand.new.view }
         ensures frames { KeepsFrames hand.old hand.new }
         ensures spare { hand.new.spare + 1 ≡ hand.old.spare }
     {

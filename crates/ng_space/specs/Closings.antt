@@ -1,5 +1,5 @@
 -- What a close asks of the seats, and what it tells of the last words.
-use Rattle.std.specs.Prelude.{◌≡◌, ◌⊎◌, ℕ, ◌+◌, ◌%◌, ◌<◌, true, List, ◌∷◌, length, map}
+use Rattle.std.specs.Prelude.{◌≡◌, ◌⊎◌, ℕ, ◌+◌, ◌%◌, ◌<◌, true, List, [], ◌∷◌, length, map}
 use mathlib.Core.Option.{some}
 use lib.ListN.{get_elem?}
 use Rattle.ng_history.specs.Book as book
@@ -26,6 +26,10 @@ views_of lock hands = lock ∷ map (λ (hand : Caller). hand.view) hands
 abbrev pub books_of : List Caller → List book.Shown
 books_of hands =
     map (λ (hand : Caller). record { number = hand.number; spare = hand.spare; entries = hand.entries }) hands
+
+-- the view of a hand has its book and no other
+abbrev pub HasOwnBook : Caller → Type 0
+HasOwnBook hand = hand.view.books ≡ record { number = hand.number; entries = hand.entries } ∷ []
 
 -- one of the hands has the number
 abbrev pub HasNumber : List Caller → ℕ → Type 0

@@ -1,5 +1,5 @@
 // The end of a heap.
-ghost use Rattle.std.specs.Prelude.{◌≡◌, true, [], ◌∷◌};
+ghost use Rattle.std.specs.Prelude.{◌≡◌, All, true, false, [], ◌∷◌};
 ghost use Rattle.ng_view.specs.Classes.{Classes};
 ghost use Rattle.ng_view.specs.Conditions.{IsSettled, IsBlanked};
 ghost use Rattle.ng_view.specs.Excuses.{Excuses};
@@ -10,7 +10,7 @@ ghost use Rattle.ng_view.specs.Slots.{Slots};
 ghost use Rattle.ng_view.specs.Steps.{hosting};
 ghost use Rattle.ng_view.specs.Views.{no_desk};
 ghost use Rattle.ng_view.specs.Words.{Words};
-ghost use Rattle.ng_space.specs.Closings.{AreAll, AreFreeMetasBlank, AreRunsUsed, EndsWith, IsEven, books_of, views_of};
+ghost use Rattle.ng_space.specs.Closings.{AreAll, AreFreeMetasBlank, AreRunsUsed, EndsWith, HasOwnBook, IsEven, books_of, views_of};
 
 use crate::hand::Hand;
 use crate::image::Image;
@@ -47,6 +47,10 @@ impl<N: Name> Space<N> {
 
         ensures pages { result.0.pages ≡ N.start.pages }
         ensures books { result.1.items ≡ books_of hands.items }
+
+        // Each hand has its book, and none of the seats is a parcel's.
+        ensures own { All HasOwnBook hands.items }
+        ensures whole { All (λ view. view.parcel ≡ false) (views_of seat hands.items) }
     {
         let LockSeat {
             mut seat,

@@ -1,10 +1,10 @@
 // Blocks come and go in a hand's slots: one store of the header cell, with an entry in the hand's book.
-ghost use Rattle.std.specs.Prelude.{◌≡◌, ℕ, ◌+◌, ◌-◌, ◌*◌, ◌/◌, ◌%◌, ◌<◌, ◌≤◌, ◌++◌, ◌∷◌, [], max};
+ghost use Rattle.std.specs.Prelude.{◌≡◌, ◌≢◌, ℕ, ◌+◌, ◌-◌, ◌*◌, ◌/◌, ◌%◌, ◌<◌, ◌≤◌, ◌++◌, ◌∷◌, [], max};
 ghost use Rattle.ng_terms.specs.Heap.{IsAlignment};
 ghost use Rattle.ng_terms.specs.declared.entry.Entry.TheVariants.{Give, Resize, Take};
 ghost use Rattle.ng_view.specs.May.{May};
 ghost use Rattle.ng_view.specs.Steps.{given, regiven, stored};
-ghost use Rattle.ng_space.specs.Blocks.{HasBlock, HasFramed, IsReady, Kills, OfSlot, Serves, header_at};
+ghost use Rattle.ng_space.specs.Blocks.{BlockToken, HasBlock, HasFramed, IsReady, Kills, OfSlot, Serves, header_at};
 ghost use Rattle.ng_space.specs.Tokens.{HasSlot, IsToken};
 
 use crate::block::Block;
@@ -34,6 +34,7 @@ impl<N: Name> Space<N> {
         requires ready { OfSlot hand.old slot (IsReady slot at n) }
         ensures block { result ≡ record { slot = slot; at = at; len = n; align = align } }
         ensures has { HasFramed hand.new result }
+        ensures apart { (other : BlockToken) → HasBlock hand.old other → other.at ≢ at }
         ensures view { hand.new.view ≡ given hand.old.view slot.meta slot.index at n align hand.old.number (header_at slot at n) }
         ensures entries { hand.new.entries ≡ hand.old.entries ++ Give n align at ∷ [] }
         ensures spare { hand.new.spare + 1 ≡ hand.old.spare }

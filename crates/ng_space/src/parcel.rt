@@ -3,7 +3,7 @@ ghost use Rattle.ng_view.specs.Cuts.{Cut};
 ghost use Rattle.ng_view.specs.Lists.{find};
 ghost use Rattle.ng_view.specs.Steps.{split_off, taken_in};
 ghost use Rattle.ng_space.specs.Blocks.{HasFramed};
-ghost use Rattle.ng_space.specs.Parcels.{sent_with, taken_by};
+ghost use Rattle.ng_space.specs.Parcels.{IsOfOneSlot, sent_with, taken_by};
 
 use crate::block::Block;
 use crate::hand::Hand;
@@ -63,6 +63,7 @@ impl<N: Name> Space<N> {
     pub fn join_parcel(&self, hand: &mut Hand<N>, parcel: Parcel<N>) -> Block<N>
         ensures block { result ≡ taken_by parcel.block hand.old.number }
         ensures has { HasFramed hand.new result }
+        ensures one { IsOfOneSlot parcel }
         ensures view { hand.new.view ≡ taken_in hand.old.view parcel.view }
         ensures number { hand.new.number ≡ hand.old.number }
         ensures spare { hand.new.spare ≡ hand.old.spare }
