@@ -23,6 +23,7 @@ use Rattle.ng_view.specs.declared.view.View.{View}
 use Rattle.ng_space.specs.Blocks.{BlockToken, HasBlock, HasFramed, IsBlockToken, IsReady, OfSlot, Serves, header_at}
 use Rattle.ng_space.specs.Callers.{Caller}
 use Rattle.ng_space.specs.Tokens.{HasSlot, IsToken, LiesAt, Token}
+use Rattle.ng_space.proofs.Apart.{IsNewAt, new_at}
 use Rattle.ng_space.proofs.Frames.{framed, frames, gives}
 use Rattle.ng_space.proofs.Holding.{find-loaded}
 
@@ -45,11 +46,12 @@ module _ (key : Start) (id : ℕ) (v : View) (hand : Caller) (k x : ℕ) (same :
   here m i h found = ap (λ (u : View). find m i u.held) same ∙ found
 
   pub gives_block : (slot : Token) (p n a : ℕ) → HasSlot hand slot → IsToken key slot → IsAlignment a → p % max a 16 ≡ 0 → OfSlot hand slot (Serves n a) → OfSlot hand slot (IsReady slot p n) → x ≡ header_at slot p n
-      → May key id v ((p - 4) / 4) (λ n. x) (λ before found after. after ≡ given before slot.meta slot.index p n a k x)
-  gives_block slot p n a has token power aligned serves ready is =
-      let h = has.held in
-      gives_may key id v slot.meta slot.index p n a k x h (here slot.meta slot.index h has.found) has.free mine power aligned
-      (subst (λ y. Gives h p n a y) (sym is) (gives h slot p n has.place (index_of slot.meta slot.index hand.view h has.found) token.few token.whole token.first (ready h has.found) a (serves h has.found)))
+      → May key id v ((p - 4) / 4) (λ n. x) (λ before found after. (after ≡ given before slot.meta slot.index p n a k x) × IsNewAt p before)
+  gives_block slot p n a has token power aligned serves ready is ws vs kept at fits =
+      let h = has.held in let found = here slot.meta slot.index h has.found in
+      let may : Gives h p n a x = subst (λ y. Gives h p n a y) (sym is) (gives h slot p n has.place (index_of slot.meta slot.index hand.view h has.found) token.few token.whole token.first (ready h has.found) a (serves h has.found)) in
+      let step = gives_may key id v slot.meta slot.index p n a k x h found has.free mine power aligned may ws vs kept at fits in
+      (step.0, step.1, (step.2, new_at key ws vs id v kept at slot.meta slot.index h found p has.free may.framed.whole may.framed.from may.framed.roomy))
 
   pub regives_block : (block : BlockToken) (n : ℕ) → HasBlock hand block → IsToken key block.slot → OfSlot hand block.slot (Serves n 16) → OfSlot hand block.slot (IsReady block.slot block.at n) → x ≡ header_at block.slot block.at n
       → May key id v ((block.at - 4) / 4) (λ n. x) (λ before found after. after ≡ regiven before block.slot.meta block.slot.index block.at n k x)

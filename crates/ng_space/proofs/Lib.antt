@@ -18,6 +18,7 @@ pub mod Annotated
 pub mod Counting
 pub mod Passed
 pub mod Frames
+pub mod Apart
 pub mod Granting
 pub mod Sending
 pub mod Keeping

@@ -2,6 +2,7 @@ use Rattle.std.proofs.Common.{ap, ◌∙◌, arith}
 use Rattle.ng_view.specs.Steps.{given}
 use Rattle.ng_view.specs.Views.{numbered}
 use Rattle.ng_space.specs.Callers.{Caller}
+use Rattle.ng_space.proofs.Apart.{apart_from_new}
 use Rattle.ng_space.proofs.Entering.{one_number}
 use Rattle.ng_space.proofs.Granting.{given_block, gives_block}
 use Rattle.ng_space.proofs.space.Space.give.Goals as goal
@@ -17,5 +18,9 @@ returns-clause-has g c =
     let r = c.requires in let header = c.header-header.ensures in let hand = c.hand.view_is in
     let ready = r.ready r.slot.held r.slot.found in
     given_block c.args.hand.now _ c.args.slot c.args.at c.args.n c.args.align c.number-number.result c.header-header.result r.slot (c.push.ensures.number ∙ ap (λ (hand : Caller). hand.number) hand)
-    (c.header_told.ensures.told ∙ ap (λ (hand : Caller). given hand.view c.args.slot.meta c.args.slot.index c.args.at c.args.n c.args.align c.number-number.result c.header-header.result) hand)
+    (c.header_told.ensures.told.0 ∙ ap (λ (hand : Caller). given hand.view c.args.slot.meta c.args.slot.index c.args.at c.args.n c.args.align c.number-number.result c.header-header.result) hand)
     header.token.few header.token.whole header.token.first (let from = ready.from in let start = r.slot.place.start in omega arith) ready header.value
+
+pub returns-clause-apart : goal.returns-clause-apart
+returns-clause-apart g c =
+    apart_from_new c.args.hand.now _ c.args.at (ap (λ (hand : Caller). hand.view) c.hand.view_is) c.header_told.ensures.told.1
