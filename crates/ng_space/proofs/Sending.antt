@@ -15,7 +15,7 @@ use Rattle.ng_view.specs.declared.view.View.{View}
 use Rattle.ng_space.specs.Blocks.{BlockToken, HasFramed}
 use Rattle.ng_space.specs.Callers.{Caller}
 use Rattle.ng_space.specs.Packed.{IsPacked}
-use Rattle.ng_space.specs.Parcels.{sent_with, taken_by}
+use Rattle.ng_space.specs.Parcels.{IsOfOneSlot, sent_with, taken_by}
 
 -- ---- a block goes off
 module _ (hand : Caller) (block : BlockToken) (has : HasFramed hand block) where
@@ -47,6 +47,9 @@ module _ (hand : Caller) (block : BlockToken) (has : HasFramed hand block) where
 module _ (table : TableId) (seat : Seat (Unit {0}) View) (block : BlockToken) (is : IsPacked table seat block) where
   pub joins_parcel : (v : View) → (v.books ≡ [] → ⊥) → Merge v seat.me.0 (taken_in v seat.me.0) spent
   joins_parcel v caller = subst (λ (w : View). Merge v w (taken_in v w) spent) (sym is.view) (merge_parcel v (parcel_of is.held) caller refl refl refl refl refl refl refl)
+
+  pub of_one_slot : IsOfOneSlot (record { view = seat.me.0; block = block })
+  of_one_slot = record { held = is.held; view = is.view; there = is.there }
 
   pub taken_block : (hand new : Caller) (taken : BlockToken) → new.number ≡ hand.number → new.view ≡ taken_in hand.view seat.me.0 → taken ≡ taken_by block hand.number → HasFramed new taken
   taken_block hand new taken number view same = subst (HasFramed new) (sym same) (record {

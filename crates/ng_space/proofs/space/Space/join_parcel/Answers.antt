@@ -1,10 +1,10 @@
-use Rattle.std.proofs.Common.{ap, ◌∙◌}
+use Rattle.std.proofs.Common.{ap, ◌∙◌, subst}
 use Rattle.ng_view.specs.Steps.{taken_in}
 use Rattle.ng_view.specs.declared.view.View.{View}
 use Rattle.ng_space.specs.Callers.{Caller}
-use Rattle.ng_space.specs.Parcels.{taken_by}
+use Rattle.ng_space.specs.Parcels.{IsOfOneSlot, taken_by}
 use Rattle.ng_space.specs.Tokens.{Token}
-use Rattle.ng_space.proofs.Sending.{joins_parcel, taken_block}
+use Rattle.ng_space.proofs.Sending.{joins_parcel, of_one_slot, taken_block}
 use Rattle.ng_space.proofs.space.Space.join_parcel.Goals as goal
 
 pub take_in-requires-clause-allowed : goal.take_in-requires-clause-allowed
@@ -27,6 +27,9 @@ returns-clause-has g c =
     let number = c.number-number.ensures ∙ ap (λ (hand : Caller). hand.number) hand in
     taken_block _ _ _ c.parcel.invariant c.args.hand.now _ _ (ap (λ (hand : Caller). hand.number) hand) (c.take_in.ensures.both ∙ ap (λ (hand : Caller). taken_in hand.view c.parcel.inside.seat.me.0) hand)
     (ap (λ (slot : Token). record { slot = slot; at = c.block.inside.at; len = c.block.inside.len; align = c.block.inside.align }) c.in_hand.ensures ∙ (λ t. taken_by (block t) (number t)))
+
+pub returns-clause-one : goal.returns-clause-one
+returns-clause-one g c = subst IsOfOneSlot c.parcel.view_is (of_one_slot _ _ _ c.parcel.invariant)
 
 pub returns-clause-view : goal.returns-clause-view
 returns-clause-view g c =
