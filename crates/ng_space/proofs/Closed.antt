@@ -1,6 +1,7 @@
 -- A close, from what the table tells of the last state.
 use Rattle.std.proofs.Common.{◌≡◌, ℕ, List, true, false, cond, ap, ◌∙◌, subst}
 use mathlib.Core.Option.{some}
+use Rattle.std.specs.Prelude.{All}
 use lib.ListN.{get_elem?}
 use Rattle.ng_history.specs.Book.{Shown}
 use Rattle.ng_view.specs.Conditions.{IsSettled, IsBlanked}
@@ -9,9 +10,9 @@ use Rattle.ng_view.specs.Views.{desk_of}
 use Rattle.ng_view.specs.declared.view.View.{View}
 use Rattle.ng_view.specs.declared.view.Start.{Start}
 use Rattle.ng_space.specs.Callers.{Caller}
-use Rattle.ng_space.specs.Closings.{AreAll, AreFreeMetasBlank, AreRunsUsed, EndsWith, IsEven, views_of}
+use Rattle.ng_space.specs.Closings.{AreAll, AreFreeMetasBlank, AreRunsUsed, EndsWith, HasOwnBook, IsEven, views_of}
 use Rattle.ng_space.proofs.Ended.{Ends, ends, ends_settled, ends_blank}
-use Rattle.ng_space.proofs.Gathering.{Gathered, all_numbers, all_even, views}
+use Rattle.ng_space.proofs.Gathering.{Gathered, all_numbers, all_even, own_books, views, whole_views}
 use Rattle.ng_space.proofs.Hosting.{hosted, hosted-parcel}
 
 -- the lock's seat, when hands come into it
@@ -26,6 +27,8 @@ pub record IsClosed (key : Start) (ws : List ℕ) (lock : View) (hands : List Ca
   pub listing : Listing ws lock.desk
   pub runs : AreRunsUsed ws lock.desk.layout
   pub free : AreFreeMetasBlank ws lock.desk.layout
+  pub own : All HasOwnBook hands
+  pub whole : All (λ view. view.parcel ≡ false) (views_of lock hands)
 
 pub closes : (key : Start) (ws : List ℕ) (lock : View) (hands : List Caller) (v : View) (books : List Shown) → EndsWith key ws v → Gathered lock hands v books → IsLock lock → AreAll lock hands → IsEven hands → IsSettled lock → IsBlanked lock → IsClosed key ws lock hands
 closes key ws lock hands v books last in_all is all even settled blanked =
@@ -38,4 +41,6 @@ closes key ws lock hands v books last in_all is all even settled blanked =
       listing = subst (Listing ws) (ap (λ b. cond b lock.desk (desk_of (views hands))) is.leads) parts.listing;
       runs = ends_settled key ws last.views last.seat lock (views hands) last.ruled at is.leads in_all.deskless numbers evens whole settled;
       free = ends_blank key ws last.views last.seat lock (views hands) last.ruled at is.leads in_all.deskless numbers evens whole blanked;
+      own = own_books hands in_all.own;
+      whole = whole_views lock hands is.whole in_all.own;
     }

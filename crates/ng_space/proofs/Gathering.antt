@@ -1,5 +1,7 @@
 -- The lock's seat takes in the hands one by one.
-use Rattle.std.proofs.Common.{◌≡◌, ℕ, ◌+◌, ◌<◌, ◌≤◌, true, List, [], ◌∷◌, ◌++◌, map, refl, sym, ap, ◌∙◌, subst, inl, inr, append_assoc, append-nil, arith}
+use Rattle.std.proofs.Common.{◌≡◌, ℕ, ◌+◌, ◌<◌, ◌≤◌, true, false, List, [], ◌∷◌, ◌++◌, map, refl, sym, ap, ◌∙◌, subst, inl, inr, append_assoc, append-nil, arith}
+use Rattle.std.specs.Prelude.{All}
+use Rattle.std.proofs.lemmas.List.Elements.{All-cons, All-nil}
 use Rattle.ng_history.specs.Book.{Shown}
 use Rattle.ng_view.specs.Lists.{Among, total_by}
 use Rattle.ng_view.specs.Steps.{hosting}
@@ -7,17 +9,21 @@ use Rattle.ng_view.specs.Views.{no_desk, numbered}
 use Rattle.ng_view.specs.declared.view.View.{View}
 use Rattle.ng_geometry.proofs.Lists.{total_by-among}
 use Rattle.ng_space.specs.Callers.{Caller}
-use Rattle.ng_space.specs.Closings.{books_of, AreAll, IsEven}
+use Rattle.ng_space.specs.Closings.{AreAll, HasOwnBook, IsEven, books_of, views_of}
 use Rattle.ng_space.proofs.Entering.{one_number}
 use Rattle.ng_space.proofs.Hosting.{hosted, AreDeskless, hosted-snoc, deskless-snoc, hosted-leads, hosted-total, sent-adds, taken-adds}
 
 abbrev pub views : List Caller → List View
 views hands = map (λ (hand : Caller). hand.view) hands
 
--- each has its own book alone
+-- a hand has its own book alone, and isn't a parcel
+pub record IsOwn (hand : Caller) : Type 0 where
+  pub book : HasOwnBook hand
+  pub whole : hand.view.parcel ≡ false
+
 abbrev pub AreOwn : List Caller → Type 0
 AreOwn [] = Unit {0}
-AreOwn (h ∷ hs) = (h.view.books ≡ record { number = h.number; entries = h.entries } ∷ []) × AreOwn hs
+AreOwn (h ∷ hs) = IsOwn h × AreOwn hs
 
 -- some hands were taken in, and the rest are to come
 pub record Gathering (lock : View) (hands taken rest : List Caller) (v : View) (shelf : List Shown) : Type 0 where
@@ -35,7 +41,7 @@ books-snoc : (hs : List Caller) (h : Caller) → books_of (hs ++ h ∷ []) ≡ b
 books-snoc [] h = refl
 books-snoc (x ∷ hs) h = ap (λ bs. record { number = x.number; spare = x.spare; entries = x.entries } ∷ bs) (books-snoc hs h)
 
-own-snoc : (hs : List Caller) (h : Caller) → AreOwn hs → h.view.books ≡ record { number = h.number; entries = h.entries } ∷ [] → AreOwn (hs ++ h ∷ [])
+own-snoc : (hs : List Caller) (h : Caller) → AreOwn hs → IsOwn h → AreOwn (hs ++ h ∷ [])
 own-snoc [] h own one = (one, tt)
 own-snoc (x ∷ hs) h own one = (own.0, own-snoc hs h own.1 one)
 
@@ -43,7 +49,7 @@ pub gathers_none : (lock : View) (hands : List Caller) (books : List Shown) → 
 gathers_none lock hands books none = record { view = refl; deskless = tt; own = tt; all = refl; books = none }
 
 pub gathers_one : (lock : View) (hands taken all_rest rest : List Caller) (v w : View) (books more : List Shown) (h : Caller) (b : Shown)
-    → Gathering lock hands taken all_rest v books → all_rest ≡ h ∷ rest → w ≡ hosting v h.view → h.view.desk ≡ no_desk → h.view.books ≡ record { number = h.number; entries = h.entries } ∷ []
+    → Gathering lock hands taken all_rest v books → all_rest ≡ h ∷ rest → w ≡ hosting v h.view → h.view.desk ≡ no_desk → IsOwn h
     → b ≡ record { number = h.number; spare = h.spare; entries = h.entries } → more ≡ books ++ b ∷ [] → Gathering lock hands (taken ++ h ∷ []) rest w more
 gathers_one lock hands taken all_rest rest v w books more h b o next is deskless own book pushed = record {
   view = is ∙ ap (λ x. hosting x h.view) o.view ∙ sym (hosted-snoc lock (views taken) h.view) ∙ ap (hosted lock) (sym (views-snoc taken h));
@@ -68,9 +74,22 @@ gathers_all lock lock' hands hands' taken rest v books o none e f =
 pub still_leads : (lock : View) (hands taken rest : List Caller) (v : View) (books : List Shown) → Gathering lock hands taken rest v books → lock.leads ≡ true → v.leads ≡ true
 still_leads lock hands taken rest v books o leads = ap (λ (x : View). x.leads) o.view ∙ hosted-leads lock (views taken) ∙ leads
 
+-- so each has its book
+pub own_books : (hs : List Caller) → AreOwn hs → All HasOwnBook hs
+own_books [] own = All-nil HasOwnBook
+own_books (h ∷ hs) own = All-cons HasOwnBook h hs own.0.book (own_books hs own.1)
+
+-- and no view is a parcel's
+whole_hands : (hs : List Caller) → AreOwn hs → All (λ view. view.parcel ≡ false) (views hs)
+whole_hands [] own = All-nil (λ view. view.parcel ≡ false)
+whole_hands (h ∷ hs) own = All-cons (λ view. view.parcel ≡ false) h.view (views hs) own.0.whole (whole_hands hs own.1)
+
+pub whole_views : (lock : View) (hs : List Caller) → lock.parcel ≡ false → AreOwn hs → All (λ view. view.parcel ≡ false) (views_of lock hs)
+whole_views lock hs whole own = All-cons (λ view. view.parcel ≡ false) lock (views hs) whole (whole_hands hs own)
+
 own_number : (hs : List Caller) (h : Caller) → AreOwn hs → Among h hs → numbered h.number h.view ≡ 1
 own_number [] h own s = elim s [ ]
-own_number (x ∷ hs) h own (inl e) = one_number h.view h.number h.entries (subst (λ (y : Caller). y.view.books ≡ record { number = y.number; entries = y.entries } ∷ []) (sym e) own.0)
+own_number (x ∷ hs) h own (inl e) = one_number h.view h.number h.entries (subst HasOwnBook (sym e) own.0.book)
 own_number (x ∷ hs) h own (inr s) = own_number hs h own.1 s
 
 among_views : (hs : List Caller) (h : Caller) → Among h hs → Among h.view (views hs)

@@ -73,7 +73,8 @@ impl<N: Name> Space<N> {
 
         // What was known of the hand by its type.
         ensures deskless { hand.view.desk ≡ no_desk }
-        ensures own_book { hand.view.books ≡ record { number = hand.number; entries = hand.entries } ∷ [] }
+        ensures own { HasOwnBook hand }
+        ensures whole { hand.view.parcel ≡ false }
     {
         let Hand {
             seat: own,

@@ -34,7 +34,7 @@ loop-hand-preserved g c =
     let steps = c.in-Some.ensures.steps in
     let taken = c.take_hand.ensures in
     let pushed = c.push_reserved.ensures in (
-      gathers_one _ _ _ _ _ _ _ _ _ _ _ at.invariant.0 steps.0 (ap (λ me. me.0) taken.seat) taken.deskless taken.own_book taken.book pushed.items,
+      gathers_one _ _ _ _ _ _ _ _ _ _ _ at.invariant.0 steps.0 (ap (λ me. me.0) taken.seat) taken.deskless (record { book = taken.own; whole = taken.whole }) taken.book pushed.items,
       taken.table ∙ at.invariant.1,
       (let was = at.invariant.2 in let gone = steps.1 in let short = ap length steps.0 in omega arith),
       (let more = ap length pushed.items in let one = length-snoc at.books.items c.take_hand.result in let short = ap length steps.0 in let room = at.invariant.3 in let same = pushed.capacity in omega arith),
@@ -77,6 +77,12 @@ returns-clause-runs g c = (closed g c).runs
 
 pub returns-clause-free : goal.returns-clause-free
 returns-clause-free g c = (closed g c).free
+
+pub returns-clause-own : goal.returns-clause-own
+returns-clause-own g c = (closed g c).own
+
+pub returns-clause-whole : goal.returns-clause-whole
+returns-clause-whole g c = (closed g c).whole
 
 pub returns-clause-books : goal.returns-clause-books
 returns-clause-books g c = (in_all g c).books
