@@ -1,5 +1,5 @@
 // The end of a heap.
-ghost use Rattle.std.specs.Prelude.{◌≡◌, All, true, false, [], ◌∷◌};
+ghost use Rattle.std.specs.Prelude.{◌≡◌, All, true, false};
 ghost use Rattle.ng_view.specs.Classes.{Classes};
 ghost use Rattle.ng_view.specs.Conditions.{IsSettled, IsBlanked};
 ghost use Rattle.ng_view.specs.Excuses.{Excuses};
