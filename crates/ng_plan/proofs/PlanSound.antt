@@ -1,5 +1,6 @@
 -- The plan of logs is sound: each block has one maker and at most one taker, and is made first.
 use Rattle.std.proofs.Common.{◌≡◌, ℕ, ◌+◌, ◌-◌, ◌<◌, ◌≤◌, List, [], length, take, drop, map, get_or, true, Option, Some, None, refl, sym, ap, ◌∙◌, subst, arith, zero-add}
+use Rattle.std.specs.Prelude.{All}
 use Rattle.std.proofs.lemmas.Bool.{false≢true}
 use Rattle.std.proofs.lemmas.List.{get_or-map, get_or_default, length-map}
 use Rattle.ng_mtrace.specs.declared.log.Line.{Line}
@@ -190,6 +191,7 @@ plan_sound logs =
           let inside : log < length logs = omega arith in
           let steps_long : length (map steps_of logs) ≡ length logs = length-map logs steps_of in
           all_turns_had (map steps_of logs) log (omega arith) ∙ ap length (steps_here logs log inside) ∙ length-steps [] (get_or logs log []) ∙ sym (long_here logs log inside);
+      order = subst (λ (n : ℕ). All (λ (log : ℕ). log < n) (turns_in logs).order) (length-map logs steps_of ∙ sym logs_long) (turns_sound (map steps_of logs)).order;
       given = λ place number place_in is. (maker_of logs place number (in_lines logs place place_in) is).0;
       taken = λ place number place_in is. (taker_of logs place number (in_lines logs place place_in) is).0;
       handed = λ number is. handed_off logs number is;

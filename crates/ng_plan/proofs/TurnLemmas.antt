@@ -3,7 +3,7 @@ use Rattle.std.proofs.Common.{◌≡◌, ◌≢◌, ℕ, zero, suc, ◌+◌, ◌
 use Rattle.std.specs.Prelude.{All, sum_by}
 use Rattle.std.proofs.lemmas.Bool.{cases_eq}
 use Rattle.std.proofs.lemmas.List.{get_or-set_same, get_or-set_other, get_or-replicate, take-append-le, take_all, length-replicate}
-use Rattle.std.proofs.lemmas.List.Elements.{All-append, All-cons, All-nil, All-weaker}
+use Rattle.std.proofs.lemmas.List.Elements.{All-append, All-cons, All-nil, All-push, All-weaker}
 use Rattle.std.proofs.lemmas.List.Sums.{sum_by_push}
 use Rattle.std.proofs.lemmas.Option.{get_or_from_slice_get, slice_get_within}
 use Rattle.ng_plan.specs.declared.step.Place.{Place}
@@ -80,6 +80,7 @@ finished logs turns log step sound within next posted handoffs are_posted are_ha
           (λ same. rw same (had_here log turns.order ∙ ap (λ (n : ℕ). n + 1) (sound.counted log within) ∙ sym (get_or-set_same turns.done log (op + 1) 0 inside)))
           (λ other. had_there k log turns.order other ∙ sound.counted k below ∙ sym (get_or-set_other turns.done log k (op + 1) 0 other))
           (cases_eq k log);
+      order = All-push (λ (k : ℕ). k < length logs) turns.order log sound.order within;
       posted = All-append (IsPost logs done) posted (posted_by (next_place turns log) step.posts)
           (All-weaker (IsPost logs turns.done) (IsPost logs done) (still_posted logs turns.done log) posted are_posted)
           (posts_own logs turns.done log step.posts inside (ap (λ (s : Step). s.posts) here));
@@ -189,6 +190,7 @@ start_sound logs = record {
   long = length-replicate {A = ℕ} (length logs) 0;
   few = λ log below. subst (λ (n : ℕ). n ≤ length (get_or logs log [])) (sym (get_or-replicate (length logs) log 0 0 below)) (omega arith);
   counted = λ log below. sym (get_or-replicate (length logs) log 0 0 below);
+  order = All-nil (λ (log : ℕ). log < length logs);
   posted = All-nil (IsPost logs (replicate (length logs) 0));
   handed = All-nil (IsHandOff logs (replicate (length logs) 0) []);
   apart = record { blocks = tt; makers = tt; takers = tt; gone = All-nil (λ (h : HandOff). All (λ (b : Posted). h.maker ≢ b.maker) []) };

@@ -61,11 +61,12 @@ pub record IsHandedOff (plan : Plan) (number : ℕ) : Type 0 where
   pub done : maker.op < turns_had maker.log (take turns plan.order)
   pub waiting : turns_had taker.log (take turns plan.order) ≤ taker.op
 
--- each block has one maker and at most one taker, and each log as many turns as it has ops
+-- each block has one maker and at most one taker; each log has as many turns as ops, and there is no other turn
 pub record IsSound (plan : Plan) : Type 0 where
   pub own : All TakesOwnOps plan.logs
   pub kept : (place : Place) (op : ℕ) → IsIn plan place → origin_of (op_in plan place) ≡ Own op → handed_as (op_in plan (record { log = place.log; op = op })) ≡ None
   pub turns : (log : ℕ) → log < length plan.logs → turns_had log plan.order ≡ length (slice_index_or plan.logs log [])
+  pub order : All (λ log. log < length plan.logs) plan.order
   pub given : (place : Place) (number : ℕ) → IsIn plan place → handed_as (op_in plan place) ≡ Some number → IsNumbered plan number
   pub taken : (place : Place) (number : ℕ) → IsIn plan place → origin_of (op_in plan place) ≡ Claim number → IsNumbered plan number
   pub handed : (number : ℕ) → IsNumbered plan number → IsHandedOff plan number

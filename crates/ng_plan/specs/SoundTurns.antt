@@ -51,6 +51,7 @@ pub record AreSound (logs : List (List Step)) (turns : Turns) : Type 0 where
   pub long : length turns.done ≡ length logs
   pub few : (log : ℕ) → log < length logs → slice_index turns.done log ≤ length (slice_index_or logs log [])
   pub counted : (log : ℕ) → log < length logs → turns_had log turns.order ≡ slice_index turns.done log
+  pub order : All (λ log. log < length logs) turns.order
   pub posted : All (IsPost logs turns.done) turns.posted
   pub handed : All (IsHandOff logs turns.done turns.order) turns.handoffs
   pub apart : AreApart turns.posted turns.handoffs

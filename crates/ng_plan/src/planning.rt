@@ -24,7 +24,7 @@ pub fn plan(alloc: Global, logs: &Logs) -> Result<Plan, Host>
     ensures plan { IfOk result (λ plan. plan ≡ plan_of (lines_of logs.now.logs)) }
 
     // Each block has one maker and at most one taker, and is made first; each log has a turn for
-    // each op.
+    // each op, and there is no other turn.
     ensures sound { IfOk result IsSound }
 {
     match plan_logs(alloc, logs.logs.as_slice()) {
