@@ -21,10 +21,10 @@ use Rattle.ng_space.specs.Blocks.{HasFramed, IsReady, OfSlot, offset_in}
 use Rattle.ng_space.specs.Callers.{Caller}
 use Rattle.ng_space.specs.Tokens.{HasSlot, LiesAt, Token}
 use Rattle.ng_space.proofs.Holding.{find-loaded}
-use Rattle.ng_frame.specs.Keeps.{IsWhole, KeepsCells, KeepsOthers, Learns, LiesStill, Stays}
+use Rattle.ng_frame.specs.Keeps.{IsWhole, KeepsCells, KeepsOthers, KeepsRest, Learns, LiesStill, Stays}
 use Rattle.ng_frame.specs.Puts.{Cycles, Puts}
 use Rattle.ng_frame.proofs.Bytes.{zero_kept, zero_made}
-use Rattle.ng_frame.proofs.Keeps.{booked_others, loaded_others, others_then, stays_loaded, stays_stored, stays_then, stored_others}
+use Rattle.ng_frame.proofs.Keeps.{booked_others, booked_rest, loaded_others, loaded_rest, others_then, rest_then, stays_loaded, stays_stored, stays_then, stored_others, stored_rest}
 
 -- what holds of the slot that is found
 pub of_found : (hand : Caller) (slot : Token) (h : Held) (P : Held → Type 0) → find slot.meta slot.index hand.view.held ≡ Some h → P h → OfSlot hand slot P
@@ -52,6 +52,9 @@ module _ (old mid new : Caller) (slot : Token) (has : HasSlot old slot) (at word
 
   pub cleared_own : Stays slot.meta slot.index old.view new.view (KeepsCells (λ b. b ≢ a))
   cleared_own = stays_then (λ b. Unit {0}) (λ b. b ≢ a) (λ b. b ≢ a) slot.meta slot.index old.view mid.view new.view (λ b ne. (tt, ne)) (stays_loaded old.view mid.view a word slot.meta slot.index loads) (stays_stored mid.view new.view slot.meta slot.index a cell stores)
+
+  pub cleared_rest : KeepsRest old.view new.view
+  cleared_rest = rest_then old.view mid.view new.view (loaded_rest old.view mid.view a word loads) (stored_rest mid.view new.view slot.meta slot.index a cell stores)
 
   pub cleared_others : KeepsOthers slot old.view new.view
   cleared_others = others_then slot old.view mid.view new.view (loaded_others slot old.view mid.view a word loads) (stored_others slot mid.view new.view a cell stores)
@@ -128,23 +131,28 @@ given_by_cycle hand slot o n p x counter at is fits cycles has = of_found hand s
     here : (p % 16 ≡ 0) × (slot_start has.has.held.place + 16 * o ≤ p) × (p < slot_start has.has.held.place + 16 * o + 16)
     here = let start = has.has.place.start in let from = is.start in (omega (arith, at), omega (arith, at), omega (arith, at))
 
-pub puts : (old one two three new : Caller) (slot : Token) (o n p k x counter : ℕ) → p ≡ slot.start + 16 * o → IsWhole slot → n + 4 ≤ slot.room → Cycles old.view slot n counter o one.view → KeepsOthers slot one.view two.view → KeepsOthers slot two.view three.view
+pub puts : (old one two three new : Caller) (slot : Token) (o n p k x counter : ℕ) → p ≡ slot.start + 16 * o → IsWhole slot → n + 4 ≤ slot.room → Cycles old.view slot n counter o one.view → KeepsRest one.view two.view → KeepsRest two.view three.view
     → new.view ≡ given three.view slot.meta slot.index p n 16 k x → HasFramed new (record { slot = slot; at = p; len = n; align = 16 }) → Puts old (record { slot = slot; at = p; len = n; align = 16 }) counter new
 puts old one two three new slot o n p k x counter at is fits cycles mark trailer gives has = record {
   word = cycles.word;
-  more = mark.rest.more ++ trailer.rest.more;
+  more = mark.more ++ trailer.more;
   readings =
       ap (λ (u : View). u.readings) gives
-      ∙ trailer.rest.readings
-      ∙ ap (λ (r : List (ℕ × ℕ)). r ++ trailer.rest.more) mark.rest.readings
-      ∙ append_assoc one.view.readings mark.rest.more trailer.rest.more
-      ∙ ap (λ (u : View). u.readings ++ (mark.rest.more ++ trailer.rest.more)) cycles.view
-      ∙ append_assoc old.view.readings ((slot.start - 4, cycles.word) ∷ []) (mark.rest.more ++ trailer.rest.more);
+      ∙ trailer.readings
+      ∙ ap (λ (r : List (ℕ × ℕ)). r ++ trailer.more) mark.readings
+      ∙ append_assoc one.view.readings mark.more trailer.more
+      ∙ ap (λ (u : View). u.readings ++ (mark.more ++ trailer.more)) cycles.view
+      ∙ append_assoc old.view.readings ((slot.start - 4, cycles.word) ∷ []) (mark.more ++ trailer.more);
   given = given_by_cycle new slot o n p (cycles.word % 4294967296) counter at is fits cycles.offset_is has;
 }
 
 pub given_others : (v w : View) (slot : Token) (p n k x : ℕ) → w ≡ given v slot.meta slot.index p n 16 k x → KeepsOthers slot v w
 given_others v w slot p n k x gives = others_then slot v (stored v slot.meta slot.index (p - 4) x) w (stored_others slot v (stored v slot.meta slot.index (p - 4) x) (p - 4) x refl) (booked_others slot (stored v slot.meta slot.index (p - 4) x) w _ k _ gives)
+
+pub given_rest : (v w : View) (slot : Token) (p n k x : ℕ) → w ≡ given v slot.meta slot.index p n 16 k x → KeepsRest v w
+given_rest v w slot p n k x gives =
+    let mid : View = stored v slot.meta slot.index (p - 4) x in
+    rest_then v mid w (stored_rest v mid slot.meta slot.index (p - 4) x refl) (booked_rest mid w slot.meta slot.index _ k _ gives)
 
 -- the slot of the block lies where it did
 pub given_still : (v one two three w : View) (slot : Token) (P Q : ℕ → Type 0) (p n k x : ℕ) → Stays slot.meta slot.index v one Learns

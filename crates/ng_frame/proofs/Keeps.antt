@@ -19,7 +19,7 @@ use Rattle.ng_space.proofs.Holding.{find-loaded}
 use Rattle.ng_frame.specs.Keeps.{CameFrom, IsOther, KeepsAll, KeepsCells, KeepsOthers, KeepsRest, Learns, Stays}
 
 -- ---- another slot than the one that is edited
-not_at : (m i k j : ℕ) (p : Place) → (k ≢ m) ⊎ (j ≢ i) → is_at m i p ≡ true → is_at k j p ≡ false
+pub not_at : (m i k j : ℕ) (p : Place) → (k ≢ m) ⊎ (j ≢ i) → is_at m i p ≡ true → is_at k j p ≡ false
 not_at m i k j p ne here = by_test (is_at k j p) refl
   where
     by_test : (b : Bool) → is_at k j p ≡ b → is_at k j p ≡ false
@@ -47,7 +47,7 @@ find-map_back m i t (x ∷ xs) k same e = by_test (find-map_back m i t xs k same
     by_test ih false e = ih e
 
 -- ---- one step
-learns_itself : (h : Held) → Learns h h
+pub learns_itself : (h : Held) → Learns h h
 learns_itself h = record { place = refl; block = refl; cells = λ a x p k. k }
 
 pub learns_cell : (a x : ℕ) (h : Held) → Learns h (learnt a x h)
@@ -77,56 +77,55 @@ stays_stored v w m i a x is h found = (
   record { place = refl; block = refl; cells = λ b y ne k. still_knows a x b y h ne k },
 )
 
-pub loaded_others : (slot : Token) (v w : View) (a x : ℕ) → w ≡ loaded v a x → KeepsOthers slot v w
-loaded_others slot v w a x is = record {
-  slots = λ m i ne. stays_loaded v w a x m i is;
-  back = λ m i ne. came_loaded v w a x m i is;
-  rest = record {
-    excuses = ap (λ (u : View). u.excuses) is;
-    sent = ap (λ (u : View). u.sent) is;
-    taken = ap (λ (u : View). u.taken) is;
-    more = (a, x) ∷ [];
-    readings = ap (λ (u : View). u.readings) is;
-  };
-}
-
 pub loaded_all : (v w : View) (a x : ℕ) → w ≡ loaded v a x → KeepsAll v w
 loaded_all v w a x is = record {
   slots = λ m i. stays_loaded v w a x m i is;
   back = λ m i. came_loaded v w a x m i is;
-  rest = record {
-    excuses = ap (λ (u : View). u.excuses) is;
-    sent = ap (λ (u : View). u.sent) is;
-    taken = ap (λ (u : View). u.taken) is;
-    more = (a, x) ∷ [];
-    readings = ap (λ (u : View). u.readings) is;
-  };
+}
+
+pub all_others : (slot : Token) (v w : View) → KeepsAll v w → KeepsOthers slot v w
+all_others slot v w all = record { slots = λ m i ne. all.slots m i; back = λ m i ne. all.back m i }
+
+pub loaded_others : (slot : Token) (v w : View) (a x : ℕ) → w ≡ loaded v a x → KeepsOthers slot v w
+loaded_others slot v w a x is = all_others slot v w (loaded_all v w a x is)
+
+pub loaded_rest : (v w : View) (a x : ℕ) → w ≡ loaded v a x → KeepsRest v w
+loaded_rest v w a x is = record {
+  excuses = ap (λ (u : View). u.excuses) is;
+  sent = ap (λ (u : View). u.sent) is;
+  taken = ap (λ (u : View). u.taken) is;
+  more = (a, x) ∷ [];
+  readings = ap (λ (u : View). u.readings) is;
 }
 
 pub stored_others : (slot : Token) (v w : View) (a x : ℕ) → w ≡ stored v slot.meta slot.index a x → KeepsOthers slot v w
 stored_others slot v w a x is = record {
   slots = λ m i ne h found. (h, ap (λ (u : View). find m i u.held) is ∙ find-edit_other slot.meta slot.index m i (wrote a x) v.held (λ y. refl) ne ∙ found, learns_itself h);
   back = came_edited slot v w (wrote a x) (λ y. refl) (ap (λ (u : View). u.held) is);
-  rest = record {
-    excuses = ap (λ (u : View). u.excuses) is;
-    sent = ap (λ (u : View). u.sent) is;
-    taken = ap (λ (u : View). u.taken) is;
-    more = [];
-    readings = ap (λ (u : View). u.readings) is ∙ sym (append-nil v.readings);
-  };
+}
+
+pub stored_rest : (v w : View) (m i a x : ℕ) → w ≡ stored v m i a x → KeepsRest v w
+stored_rest v w m i a x is = record {
+  excuses = ap (λ (u : View). u.excuses) is;
+  sent = ap (λ (u : View). u.sent) is;
+  taken = ap (λ (u : View). u.taken) is;
+  more = [];
+  readings = ap (λ (u : View). u.readings) is ∙ sym (append-nil v.readings);
 }
 
 pub booked_others : (slot : Token) (v w : View) (b : Option Extent) (k : ℕ) (e : Entry) → w ≡ booked_block v slot.meta slot.index b k e → KeepsOthers slot v w
 booked_others slot v w b k e is = record {
   slots = λ m i ne h found. (h, ap (λ (u : View). find m i u.held) is ∙ find-edit_other slot.meta slot.index m i (with_block b) v.held (λ y. refl) ne ∙ found, learns_itself h);
   back = came_edited slot v w (with_block b) (λ y. refl) (ap (λ (u : View). u.held) is);
-  rest = record {
-    excuses = ap (λ (u : View). u.excuses) is;
-    sent = ap (λ (u : View). u.sent) is;
-    taken = ap (λ (u : View). u.taken) is;
-    more = [];
-    readings = ap (λ (u : View). u.readings) is ∙ sym (append-nil v.readings);
-  };
+}
+
+pub booked_rest : (v w : View) (m i : ℕ) (b : Option Extent) (k : ℕ) (e : Entry) → w ≡ booked_block v m i b k e → KeepsRest v w
+booked_rest v w m i b k e is = record {
+  excuses = ap (λ (u : View). u.excuses) is;
+  sent = ap (λ (u : View). u.sent) is;
+  taken = ap (λ (u : View). u.taken) is;
+  more = [];
+  readings = ap (λ (u : View). u.readings) is ∙ sym (append-nil v.readings);
 }
 
 -- ---- steps one after the other
@@ -145,7 +144,7 @@ came_then : (m i : ℕ) (v u w : View) → CameFrom m i v u Learns → CameFrom 
 came_then m i v u w one two k found =
     let j = two k found in let h = one j.0 j.1 in (h.0, h.1, keeps_then _ _ _ h.0 j.0 k (λ a t. (t, t)) h.2 j.2)
 
-rest_then : (v u w : View) → KeepsRest v u → KeepsRest u w → KeepsRest v w
+pub rest_then : (v u w : View) → KeepsRest v u → KeepsRest u w → KeepsRest v w
 rest_then v u w one two = record {
   excuses = two.excuses ∙ one.excuses;
   sent = two.sent ∙ one.sent;
@@ -158,25 +157,22 @@ pub others_then : (slot : Token) (v u w : View) → KeepsOthers slot v u → Kee
 others_then slot v u w one two = record {
   slots = λ m i ne. stays_then _ _ _ m i v u w (λ a t. (t, t)) (one.slots m i ne) (two.slots m i ne);
   back = λ m i ne. came_then m i v u w (one.back m i ne) (two.back m i ne);
-  rest = rest_then v u w one.rest two.rest;
 }
 
 pub all_then : (v u w : View) → KeepsAll v u → KeepsAll u w → KeepsAll v w
 all_then v u w one two = record {
   slots = λ m i. stays_then _ _ _ m i v u w (λ a t. (t, t)) (one.slots m i) (two.slots m i);
   back = λ m i. came_then m i v u w (one.back m i) (two.back m i);
-  rest = rest_then v u w one.rest two.rest;
 }
-
-pub all_others : (slot : Token) (v w : View) → KeepsAll v w → KeepsOthers slot v w
-all_others slot v w all = record { slots = λ m i ne. all.slots m i; back = λ m i ne. all.back m i; rest = all.rest }
 
 pub all_itself : (v : View) → KeepsAll v v
 all_itself v = record {
   slots = λ m i h found. (h, found, learns_itself h);
   back = λ m i k found. (k, found, learns_itself k);
-  rest = record { excuses = refl; sent = refl; taken = refl; more = []; readings = sym (append-nil v.readings) };
 }
+
+pub rest_itself : (v : View) → KeepsRest v v
+rest_itself v = record { excuses = refl; sent = refl; taken = refl; more = []; readings = sym (append-nil v.readings) }
 
 -- a block is ended
 pub kills_others : (v w : View) (block : BlockToken) (k : ℕ) → Kills v block k w → KeepsOthers block.slot v w
@@ -186,3 +182,11 @@ kills_others v w block k kills =
     let two : View = booked_block one slot.meta slot.index None k (Take block.at) in
     others_then slot v one w (loaded_others slot v one (block.at - 4) kills.header refl)
     (others_then slot one two w (booked_others slot one two None k (Take block.at) refl) (stored_others slot two w (block.at - 4) (kills.header % 256 + 65280) kills.view))
+
+pub kills_rest : (v w : View) (block : BlockToken) (k : ℕ) → Kills v block k w → KeepsRest v w
+kills_rest v w block k kills =
+    let slot = block.slot in
+    let one : View = loaded v (block.at - 4) kills.header in
+    let two : View = booked_block one slot.meta slot.index None k (Take block.at) in
+    rest_then v one w (loaded_rest v one (block.at - 4) kills.header refl)
+    (rest_then one two w (booked_rest one two slot.meta slot.index None k (Take block.at) refl) (stored_rest two w slot.meta slot.index (block.at - 4) (kills.header % 256 + 65280) kills.view))

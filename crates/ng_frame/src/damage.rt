@@ -1,6 +1,5 @@
 ghost use Rattle.std.specs.Prelude.{◌≡◌, None};
-ghost use Rattle.ng_space.specs.Blocks.{BlockToken, HasBlock, HasFramed};
-ghost use Rattle.ng_space.specs.Tokens.{HasSlot, Token};
+ghost use Rattle.ng_space.specs.Blocks.{HasBlock, HasFramed};
 ghost use Rattle.ng_frame.specs.Framed.{AreFramed};
 ghost use Rattle.ng_frame.specs.Inspects.{Inspects};
 ghost use Rattle.ng_frame.specs.Keeps.{KeepsAll, KeepsRest};
@@ -31,9 +30,6 @@ pub fn find_damage<N: Name>(
     // What the hand has stays.
     ensures kept { KeepsAll hand.old.view hand.new.view }
     ensures rest { KeepsRest hand.old.view hand.new.view }
-    ensures slots { (slot : Token) → HasSlot hand.old slot → HasSlot hand.new slot }
-    ensures blocks { (other : BlockToken) → HasBlock hand.old other → HasBlock hand.new other }
-    ensures frames { (other : BlockToken) → HasFramed hand.old other → HasFramed hand.new other }
     ensures each { AreFramed hand.old.view → AreFramed hand.new.view }
     ensures number { hand.new.number ≡ hand.old.number }
     ensures spare { hand.new.spare ≡ hand.old.spare }

@@ -1,8 +1,7 @@
 // The words that a block's frame is read from.
 ghost use Rattle.std.specs.Prelude.{◌≡◌, ◌%◌, ◌<◌};
 ghost use Rattle.ng_header.specs.Bytes.{byte_of};
-ghost use Rattle.ng_space.specs.Blocks.{BlockToken, HasBlock, HasFramed};
-ghost use Rattle.ng_space.specs.Tokens.{HasSlot, Token};
+ghost use Rattle.ng_space.specs.Blocks.{HasBlock, HasFramed};
 ghost use Rattle.ng_frame.specs.Inspects.{TellLength, looked};
 ghost use Rattle.ng_frame.specs.Framed.{AreFramed};
 ghost use Rattle.ng_frame.specs.Keeps.{KeepsAll, KeepsRest};
@@ -23,12 +22,9 @@ pub(crate) fn read_words<N: Name>(space: &Space<N>, hand: &mut Hand<N>, block: &
     ensures view { hand.new.view ≡ looked hand.old.view block.now result }
     ensures whole { block.now.slot.end % 16 ≡ 12 }
     ensures tells { HasFramed hand.old block.now → TellLength block.now result }
-    ensures frames { (other : BlockToken) → HasFramed hand.old other → HasFramed hand.new other }
     ensures kept { KeepsAll hand.old.view hand.new.view }
     ensures rest { KeepsRest hand.old.view hand.new.view }
     ensures each { AreFramed hand.old.view → AreFramed hand.new.view }
-    ensures slots { (slot : Token) → HasSlot hand.old slot → HasSlot hand.new slot }
-    ensures blocks { (other : BlockToken) → HasBlock hand.old other → HasBlock hand.new other }
     ensures number { hand.new.number ≡ hand.old.number }
     ensures spare { hand.new.spare ≡ hand.old.spare }
     ensures entries { hand.new.entries ≡ hand.old.entries }

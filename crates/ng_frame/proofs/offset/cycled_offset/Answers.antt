@@ -1,6 +1,7 @@
 use Rattle.std.proofs.Common.{ℕ, ◌-◌, ◌/◌, ap, ◌∙◌, arith}
 use Rattle.ng_view.specs.Steps.{loaded}
-use Rattle.ng_frame.proofs.Keeps.{loaded_others, stays_loaded}
+use Rattle.ng_frame.proofs.Framed.{loaded_each}
+use Rattle.ng_frame.proofs.Keeps.{loaded_others, loaded_rest, stays_loaded}
 use Rattle.ng_header.specs.Cycle.{cycle_of}
 use Rattle.ng_frame.proofs.Slots.{cycle_of-small, front_is, narrow, whole}
 use Rattle.ng_frame.proofs.offset.cycled_offset.Goals as goal
@@ -26,3 +27,9 @@ returns-clause-own g c = stays_loaded c.args.hand.now.view c.load.new.hand.view 
 
 pub returns-clause-others : goal.returns-clause-others
 returns-clause-others g c = loaded_others c.args.slot.now c.args.hand.now.view c.load.new.hand.view _ c.load.result c.load.ensures.view
+
+pub returns-clause-rest : goal.returns-clause-rest
+returns-clause-rest g c = loaded_rest c.args.hand.now.view c.load.new.hand.view _ c.load.result c.load.ensures.view
+
+pub returns-clause-each : goal.returns-clause-each
+returns-clause-each g c = loaded_each c.args.hand.now.view c.load.new.hand.view _ c.load.result c.load.ensures.view

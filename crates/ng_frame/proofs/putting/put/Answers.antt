@@ -1,12 +1,12 @@
-use Rattle.std.proofs.Common.{◌∙◌, ◌≡◌, ℕ, ◌+◌, ◌-◌, ◌*◌, ◌<◌, ◌≤◌, sym, ap, subst}
+use Rattle.std.proofs.Common.{◌∙◌, ◌≢◌, ℕ, ◌+◌, ◌-◌, ◌*◌, ◌<◌, ◌≤◌, sym, ap, subst}
 use Rattle.ng_view.specs.Frame.{IsTrailer}
-use Rattle.ng_space.specs.Blocks.{HasFramed, OfSlot}
-use Rattle.ng_frame.specs.Puts.{Puts}
-use Rattle.ng_frame.proofs.Framed.{framed_at, others_framed}
-use Rattle.ng_frame.proofs.Frames.{given_others, given_still, puts, ready}
-use Rattle.ng_frame.proofs.Keeps.{others_then}
+use Rattle.ng_space.specs.Blocks.{BlockToken, HasFramed, OfSlot}
 use Rattle.ng_frame.specs.Keeps.{KeepsOthers}
-use Rattle.ng_frame.proofs.Tokens.{block_kept, framed_kept, slot_kept}
+use Rattle.ng_frame.specs.Puts.{Puts}
+use Rattle.ng_frame.proofs.Framed.{given_each}
+use Rattle.ng_frame.proofs.Frames.{given_others, given_rest, given_still, puts, ready}
+use Rattle.ng_frame.proofs.Keeps.{others_then, rest_then}
+use Rattle.ng_frame.proofs.Tokens.{block_kept, live_apart}
 use Rattle.ng_frame.proofs.putting.put.Given.{Over}
 use Rattle.ng_frame.proofs.putting.put.Goals as goal
 
@@ -23,7 +23,7 @@ returns-clause-puts g c =
     let o : ℕ = c.cycled_offset-offset.result in
     let offset = c.cycled_offset-offset.ensures in
     subst (λ b. Puts c.args.hand.now b c.args.counter c.give.new.hand) (sym c.give.ensures.block)
-    (puts c.args.hand.now c.cycled_offset-offset.new.hand c.store_mark.new.hand c.store_trailer.new.hand c.give.new.hand c.args.slot o c.args.n _ _ _ c.args.counter (ap (λ s. s + 16 * o) c.start.ensures) offset.whole c.requires.fits offset.cycles c.store_mark.ensures.others c.store_trailer.ensures.others c.give.ensures.view
+    (puts c.args.hand.now c.cycled_offset-offset.new.hand c.store_mark.new.hand c.store_trailer.new.hand c.give.new.hand c.args.slot o c.args.n _ _ _ c.args.counter (ap (λ s. s + 16 * o) c.start.ensures) offset.whole c.requires.fits offset.cycles c.store_mark.ensures.rest c.store_trailer.ensures.rest c.give.ensures.view
     (subst (HasFramed c.give.new.hand) c.give.ensures.block c.give.ensures.has))
 
 pub returns-clause-still : goal.returns-clause-still
@@ -32,26 +32,28 @@ returns-clause-still g c =
     (λ a. c.args.slot.start ≤ a) (λ a. a < c.args.slot.start) _ _ _ _ c.cycled_offset-offset.ensures.own c.store_mark.ensures.own c.store_trailer.ensures.own
     c.give.ensures.view
 
-others : (g : Over) (c : goal.After-give g) → KeepsOthers c.args.slot c.args.hand.now.view c.give.new.hand.view
-others g c =
+-- what the hand has besides once the frame is stored, and once the block is given
+framed_others : (g : Over) (c : goal.After-give g) → KeepsOthers c.args.slot c.args.hand.now.view c.store_trailer.new.hand.view
+framed_others g c =
     let slot = c.args.slot in
-    others_then slot _ _ _ c.cycled_offset-offset.ensures.others (others_then slot _ _ _ c.store_mark.ensures.others (others_then slot _ _ _ c.store_trailer.ensures.others (given_others c.store_trailer.new.hand.view c.give.new.hand.view slot _ _ _ _ c.give.ensures.view)))
-
-number : (g : Over) (c : goal.After-give g) → c.give.new.hand.number ≡ c.args.hand.now.number
-number g c = c.give.ensures.number ∙ c.store_trailer.ensures.number ∙ c.store_mark.ensures.number ∙ c.cycled_offset-offset.ensures.number
+    others_then slot _ _ _ c.cycled_offset-offset.ensures.others (others_then slot _ _ _ c.store_mark.ensures.others c.store_trailer.ensures.others)
 
 pub returns-clause-others : goal.returns-clause-others
-returns-clause-others g c = others g c
+returns-clause-others g c =
+    others_then c.args.slot _ _ _ (framed_others g c) (given_others c.store_trailer.new.hand.view c.give.new.hand.view c.args.slot _ _ _ _ c.give.ensures.view)
 
-pub returns-clause-slots : goal.returns-clause-slots
-returns-clause-slots g c = λ other ne has. slot_kept c.args.hand.now c.give.new.hand c.args.slot (number g c) (others g c) other ne has
-
-pub returns-clause-blocks : goal.returns-clause-blocks
-returns-clause-blocks g c = λ other ne has. block_kept c.args.hand.now c.give.new.hand c.args.slot (number g c) (others g c) other ne has
-
-pub returns-clause-frames : goal.returns-clause-frames
-returns-clause-frames g c = λ other ne has. framed_kept c.args.hand.now c.give.new.hand c.args.slot (number g c) (others g c) other ne has
+pub returns-clause-rest : goal.returns-clause-rest
+returns-clause-rest g c =
+    rest_then _ _ _ c.cycled_offset-offset.ensures.rest (rest_then _ _ _ c.store_mark.ensures.rest (rest_then _ _ _ c.store_trailer.ensures.rest (given_rest c.store_trailer.new.hand.view c.give.new.hand.view c.args.slot _ _ _ _ c.give.ensures.view)))
 
 pub returns-clause-each : goal.returns-clause-each
 returns-clause-each g c = λ framed.
-    others_framed c.args.slot c.args.hand.now.view c.give.new.hand.view (others g c) (framed_at c.give.new.hand _ (subst (HasFramed c.give.new.hand) c.give.ensures.block c.give.ensures.has)) framed
+    given_each c.store_trailer.new.hand c.give.new.hand c.args.slot _ _ _ _ c.store_trailer.ensures.slot c.give.ensures.view (subst (HasFramed c.give.new.hand) c.give.ensures.block c.give.ensures.has)
+    (c.store_trailer.ensures.each (c.store_mark.ensures.each (c.cycled_offset-offset.ensures.each framed)))
+
+pub returns-clause-apart : goal.returns-clause-apart
+returns-clause-apart g c = λ other has.
+    let number = c.store_trailer.ensures.number ∙ c.store_mark.ensures.number ∙ c.cycled_offset-offset.ensures.number in
+    let apart = live_apart c.args.hand.now c.args.slot other c.requires.slot has in
+    let still = block_kept c.args.hand.now c.store_trailer.new.hand c.args.slot number (framed_others g c) other apart has in
+    subst (λ (b : BlockToken). other.at ≢ b.at) (sym c.give.ensures.block) (c.give.ensures.apart other still)

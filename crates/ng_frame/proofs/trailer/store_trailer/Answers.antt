@@ -1,6 +1,7 @@
 use Rattle.std.proofs.Common.{◌≢◌, ℕ, ◌-◌, ◌*◌, ◌/◌, ◌<◌, arith}
+use Rattle.ng_frame.proofs.Framed.{stored_each}
 use Rattle.ng_frame.proofs.Frames.{knows_still, long_trailer, short_trailer, stored_byte, stored_knows}
-use Rattle.ng_frame.proofs.Keeps.{others_then, stays_stored, stays_then, stored_others}
+use Rattle.ng_frame.proofs.Keeps.{others_then, rest_then, stays_stored, stays_then, stored_others, stored_rest}
 use Rattle.ng_frame.proofs.Trailers.{before_first, before_last, cells_apart, fifth_apart}
 use Rattle.ng_frame.proofs.trailer.store_trailer.Goals as goal
 
@@ -49,3 +50,14 @@ returns-else-reserved-ge5-clause-own g c =
         cells = λ a x lt s. k.2.cells a x (before_first slot e r a c.end-end.ensures.end c.requires.whole c.requires.within lt) s;
       },
     ))
+
+pub returns-then-reserved-ge5-clause-rest : goal.returns-then-reserved-ge5-clause-rest
+returns-then-reserved-ge5-clause-rest g c =
+    let slot = c.args.slot.now in
+    let one = c.clear_byte.new.hand in let two = c.store_own.new.hand in let three = c.clear_byte-then-reserved-ge5.new.hand in
+    rest_then c.args.hand.now.view one.view three.view c.clear_byte.ensures.rest (rest_then one.view two.view three.view (stored_rest one.view two.view slot.meta slot.index (c.end-end.result - 4) c.args.reserved c.store_own.ensures.view) c.clear_byte-then-reserved-ge5.ensures.rest)
+
+pub returns-then-reserved-ge5-clause-each : goal.returns-then-reserved-ge5-clause-each
+returns-then-reserved-ge5-clause-each g c = λ framed.
+    let stored = stored_each c.clear_byte.new.hand c.store_own.new.hand c.args.slot.now _ _ c.clear_byte.ensures.slot c.store_own.ensures.view (c.clear_byte.ensures.each framed) in
+    c.clear_byte-then-reserved-ge5.ensures.each stored

@@ -1,8 +1,8 @@
 use Rattle.std.proofs.Common.{◌≡◌, ◌+◌, ◌-◌, ap, ◌∙◌, subst, arith}
 use Rattle.ng_view.specs.Steps.{loaded}
 use Rattle.ng_view.specs.Tells.{Tells}
-use Rattle.ng_space.proofs.Keeping.{loaded_framed}
-use Rattle.ng_frame.proofs.Keeps.{all_then, loaded_all}
+use Rattle.ng_frame.proofs.Framed.{loaded_each}
+use Rattle.ng_frame.proofs.Keeps.{all_then, loaded_all, loaded_rest, rest_then}
 use Rattle.ng_frame.proofs.Lengths.{block_whole, length_told}
 use Rattle.ng_frame.proofs.words.read_words.Goals as goal
 
@@ -32,13 +32,18 @@ returns-clause-tells g c =
     (subst (λ a. Tells g.N.Name.start c.load-header.new.hand.view (a - 4) c.load-last.result) end two.told)
     (subst (λ a. Tells g.N.Name.start c.load-last.new.hand.view (a - 8) c.load-fifth.result) end three.told)
 
-pub returns-clause-frames : goal.returns-clause-frames
-returns-clause-frames g c = λ other f.
-    let one = c.load-header.ensures in let two = c.load-last.ensures in let three = c.load-fifth.ensures in
-    loaded_framed c.load-last.new.hand c.load-fifth.new.hand _ c.load-fifth.result other three.view three.number
-    (loaded_framed c.load-header.new.hand c.load-last.new.hand _ c.load-last.result other two.view two.number (loaded_framed c.args.hand.now c.load-header.new.hand _ c.load-header.result other one.view one.number f))
-
 pub returns-clause-kept : goal.returns-clause-kept
 returns-clause-kept g c =
     let zero = c.args.hand.now.view in let one = c.load-header.new.hand.view in let two = c.load-last.new.hand.view in let three = c.load-fifth.new.hand.view in
     all_then zero one three (loaded_all zero one _ c.load-header.result c.load-header.ensures.view) (all_then one two three (loaded_all one two _ c.load-last.result c.load-last.ensures.view) (loaded_all two three _ c.load-fifth.result c.load-fifth.ensures.view))
+
+pub returns-clause-rest : goal.returns-clause-rest
+returns-clause-rest g c =
+    let zero = c.args.hand.now.view in let one = c.load-header.new.hand.view in let two = c.load-last.new.hand.view in let three = c.load-fifth.new.hand.view in
+    rest_then zero one three (loaded_rest zero one _ c.load-header.result c.load-header.ensures.view) (rest_then one two three (loaded_rest one two _ c.load-last.result c.load-last.ensures.view) (loaded_rest two three _ c.load-fifth.result c.load-fifth.ensures.view))
+
+pub returns-clause-each : goal.returns-clause-each
+returns-clause-each g c = λ framed.
+    let zero = c.args.hand.now.view in let one = c.load-header.new.hand.view in let two = c.load-last.new.hand.view in let three = c.load-fifth.new.hand.view in
+    loaded_each two three _ c.load-fifth.result c.load-fifth.ensures.view
+    (loaded_each one two _ c.load-last.result c.load-last.ensures.view (loaded_each zero one _ c.load-header.result c.load-header.ensures.view framed))
