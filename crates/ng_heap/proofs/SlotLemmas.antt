@@ -1,20 +1,24 @@
 -- A slot for a block, or the excuse of a refused map call, comes into a hand.
 use Rattle.std.proofs.Common.{◌≡◌, ◌≢◌, ℕ, ◌+◌, ◌-◌, ◌*◌, ◌<◌, ◌≤◌, cond, Bool, true, false, List, [], ◌∷◌, Ok, Err, refl, sym, ap, ◌∙◌, subst, ⊎_elim, inl, inr, max, arith}
-use Rattle.std.specs.Prelude.{IfErr, IfOk, OnErr, OnOk, Option, Result, Some, None}
+use Rattle.std.specs.Prelude.{IfErr, IfOk, OnErr, OnOk, Result, Some}
 use Rattle.std.proofs.lemmas.Bool.{cases_eq}
 use Rattle.ng_class.specs.Class.{IsAllowedClass, units_of}
 use Rattle.ng_class.proofs.Classes.{allowed_least, units_of_next}
 use Rattle.ng_mapper.specs.declared.refusals.Refusals.{Refusals}
 use Rattle.ng_policy.specs.declared.ask.Ask.{Ask}
 use Rattle.ng_terms.specs.Causes.{Rose}
-use Rattle.ng_terms.specs.Heap.{extent}
-use Rattle.ng_terms.specs.declared.entry.Extent.{Extent}
 use Rattle.ng_terms.specs.declared.refusal.AllocRefusal.TheVariants.{NoMemory}
-use Rattle.ng_view.specs.Lists.{find, is_at}
+use Rattle.ng_geometry.proofs.Lists.{is_at-here}
+use Rattle.ng_view.specs.Lists.{Among, find, is_at}
+use Rattle.ng_view.specs.Steps.{in_motion}
 use Rattle.ng_view.specs.declared.view.Held.{Held}
 use Rattle.ng_view.specs.declared.view.Place.{Place}
 use Rattle.ng_view.specs.declared.view.View.{View}
-use Rattle.ng_frame.specs.Keeps.{Learns, LiesStill, Stays}
+use Rattle.ng_frame.specs.Framed.{AreFramed, HasFrame}
+use Rattle.ng_frame.specs.Keeps.{IsOther, KeepsAll, KeepsOthers, KeepsRest, Learns, LiesStill, Stays}
+use Rattle.ng_frame.proofs.Framed.{free_frame, learns_frame}
+use Rattle.ng_frame.proofs.Keeps.{not_at}
+use Rattle.ng_frame.proofs.Tokens.{live_apart}
 use Rattle.ng_space.specs.Blocks.{BlockToken, HasBlock, OfSlot, Serves}
 use Rattle.ng_space.specs.Callers.{Caller}
 use Rattle.ng_space.specs.Passed.{ExcuseToken}
@@ -26,8 +30,7 @@ use Rattle.ng_group.specs.Lone.{BuildsLone}
 use Rattle.ng_group.specs.States.{State}
 use Rattle.ng_group.specs.Steps.{GoesOn}
 use Rattle.ng_heap.specs.Causes.{BuildsFor, HasClass, HasRefusalCause, Looks, threshold}
-use Rattle.ng_heap.specs.Keeps.{IsFresh, KeepsAll, KeepsFrames}
-use Rattle.ng_heap.proofs.KeepLemmas.{BlocksCameFrom, came_framed, came_frames}
+use Rattle.ng_heap.specs.Keeps.{IsFresh, KeepsFrames}
 
 -- a slot, or an excuse
 abbrev pub Answer : Type 0
@@ -40,97 +43,119 @@ GainsOk v w answer = IfOk answer (λ slot. GainsSlot slot.meta slot.index v w)
 abbrev pub GainsErr : View → View → Answer → Type 0
 GainsErr v w answer = IfErr answer (λ excuse. GainsExcuse excuse.number v w)
 
--- the hand's slots and blocks stay
-abbrev pub SlotsStay : Caller → Caller → Type 0
-SlotsStay before after = (token : Token) → HasSlot before token → HasSlot after token
-
+-- the hand's blocks stay
 abbrev pub BlocksStay : Caller → Caller → Type 0
 BlocksStay before after = (block : BlockToken) → HasBlock before block → HasBlock after block
 
 -- ---- the same slots, of which more cells may be known
--- the slot was there before
-abbrev Was : ℕ → ℕ → List Held → (Held → Type 0) → Type 0
-Was m i hs R = (h : Held) × (find m i hs ≡ Some h) × R h
-
 same_learns : (h k : Held) → IsSameSlot h k → Learns h k
 same_learns h k same = record { place = same.place; block = same.block; cells = λ a x p known. same.known a x known }
 
 -- a slot that is found was found before
-same_back : (m i : ℕ) (hs ks : List Held) (k : Held) → AreSameSlots hs ks → find m i ks ≡ Some k → Was m i hs (λ h. IsSameSlot h k)
+same_back : (m i : ℕ) (hs ks : List Held) (k : Held) → AreSameSlots hs ks → find m i ks ≡ Some k
+    → (h : Held) × (find m i hs ≡ Some h) × Learns h k
 same_back m i [] [] k same e = absurd (cc)
 same_back m i [] (y ∷ ys) k same e = elim same [ ]
 same_back m i (x ∷ xs) [] k same e = elim same [ ]
 same_back m i (x ∷ xs) (y ∷ ys) k same e =
     by_test (same_back m i xs ys k same.1) (is_at m i x.place) (ap (λ p. cond (is_at m i p) (Some y) (find m i ys)) (sym same.0.place) ∙ e)
   where
-    by_test : (find m i ys ≡ Some k → Was m i xs (λ h. IsSameSlot h k)) → (b : Bool) → cond b (Some y) (find m i ys) ≡ Some k
-        → (h : Held) × (cond b (Some x) (find m i xs) ≡ Some h) × IsSameSlot h k
-    by_test ih true e = let q : y ≡ k = cc in (x, refl, subst (λ z. IsSameSlot x z) q same.0)
+    by_test : (find m i ys ≡ Some k → (h : Held) × (find m i xs ≡ Some h) × Learns h k) → (b : Bool)
+        → cond b (Some y) (find m i ys) ≡ Some k → (h : Held) × (cond b (Some x) (find m i xs) ≡ Some h) × Learns h k
+    by_test ih true e = let q : y ≡ k = cc in (x, refl, subst (λ z. Learns x z) q (same_learns x y same.0))
     by_test ih false e = ih e
 
-same_came : (v w : View) → AreSameSlots v.held w.held → BlocksCameFrom v w
-same_came v w same = record {
-  each = λ m i k b found live. let h = same_back m i v.held w.held k same found in (h.0, h.1, same_learns h.0 k h.2);
-}
-
--- where a slot without a block came
-gained_came : (v w : View) (x : Held) → x.block ≡ None → AreSameSlots (x ∷ v.held) w.held → BlocksCameFrom v w
-gained_came v w x free same = record { each = λ m i k b found live. at m i k b live (same_back m i (x ∷ v.held) w.held k same found) }
+-- and one that was found still is
+same_forth : (m i : ℕ) (hs ks : List Held) (h : Held) → AreSameSlots hs ks → find m i hs ≡ Some h
+    → (k : Held) × (find m i ks ≡ Some k) × Learns h k
+same_forth m i [] ks h same e = absurd (cc)
+same_forth m i (x ∷ xs) [] h same e = elim same [ ]
+same_forth m i (x ∷ xs) (y ∷ ys) h same e = carried (by_test (same_forth m i xs ys h same.1) (is_at m i x.place) e)
   where
-    at : (m i : ℕ) (k : Held) (b : Extent) → k.block ≡ Some b → Was m i (x ∷ v.held) (λ h. IsSameSlot h k) → Was m i v.held (λ h. Learns h k)
-    at m i k b live r = by_test (is_at m i x.place) r.1
-      where
-        never : x ≡ r.0 → ⊥
-        never q =
-            let both : ◌≡◌ {A = Option Extent} None (Some b) = sym free ∙ ap (λ (h : Held). h.block) q ∙ sym r.2.block ∙ live in
-            absurd (cc)
+    by_test : (find m i xs ≡ Some h → (k : Held) × (find m i ys ≡ Some k) × Learns h k) → (b : Bool)
+        → cond b (Some x) (find m i xs) ≡ Some h → (k : Held) × (cond b (Some y) (find m i ys) ≡ Some k) × Learns h k
+    by_test ih true e = let q : x ≡ h = cc in (y, refl, subst (λ z. Learns z y) q (same_learns x y same.0))
+    by_test ih false e = ih e
 
-        by_test : (t : Bool) → cond t (Some x) (find m i v.held) ≡ Some r.0 → Was m i v.held (λ h. Learns h k)
-        by_test true e = let q : x ≡ r.0 = cc in absurd (never q)
-        by_test false e = (r.0, e, same_learns r.0 k r.2)
+    carried : (k : Held) × (cond (is_at m i x.place) (Some y) (find m i ys) ≡ Some k) × Learns h k
+        → (k : Held) × (find m i (y ∷ ys) ≡ Some k) × Learns h k
+    carried r = (r.0, ap (λ p. cond (is_at m i p) (Some y) (find m i ys)) same.0.place ∙ r.1, r.2)
 
--- whatever was answered
-answered_came : (v w : View) (answer : Answer) → GainsOk v w answer → GainsErr v w answer → BlocksCameFrom v w
-answered_came v w (Ok slot) gains none = gained_came v w _ refl gains.learns.slots
-answered_came v w (Err excuse) none gains = same_came v w gains.learns.slots
+-- each is framed where it was
+same_each : (hs ks : List Held) → AreSameSlots hs ks → ((h : Held) → Among h hs → HasFrame h) → (k : Held) → Among k ks → HasFrame k
+same_each [] [] same framed k there = elim there [ ]
+same_each [] (y ∷ ys) same framed k there = elim same [ ]
+same_each (x ∷ xs) [] same framed k there = elim same [ ]
+same_each (x ∷ xs) (y ∷ ys) same framed k (inl e) = subst HasFrame (sym e) (learns_frame x y (same_learns x y same.0) (framed x (inl refl)))
+same_each (x ∷ xs) (y ∷ ys) same framed k (inr e) = same_each xs ys same.1 (λ h was. framed h (inr was)) k e
 
-pub answered_kept : (before after : Caller) (answer : Answer) → GainsOk before.view after.view answer → GainsErr before.view after.view answer
-    → SlotsStay before after → BlocksStay before after → KeepsAll before after
-answered_kept before after answer ok err slots blocks = record {
-  slots = slots;
-  blocks = blocks;
-  frames = came_frames before after (answered_came before.view after.view answer ok err) blocks;
+same_all : (v w : View) → AreSameSlots v.held w.held → KeepsAll v w
+same_all v w same = record {
+  slots = λ m i h found. same_forth m i v.held w.held h same found;
+  back = λ m i k found. same_back m i v.held w.held k same found;
 }
+
+-- where a slot came, it is so of the others
+gained_others : (slot : Token) (v w : View) → GainsSlot slot.meta slot.index v w → KeepsOthers slot v w
+gained_others slot v w gains = record {
+  slots = λ m i ne h found. same_forth m i (x ∷ v.held) w.held h gains.learns.slots (passed m i ne ∙ found);
+  back = λ m i ne k found.
+      let r = same_back m i (x ∷ v.held) w.held k gains.learns.slots found in (r.0, sym (passed m i ne) ∙ r.1, r.2);
+}
+  where
+    x : Held
+    x = in_motion gains.group slot.index
+
+    here : is_at slot.meta slot.index x.place ≡ true
+    here = subst (λ m. is_at m slot.index x.place ≡ true) gains.of_meta (is_at-here x.place)
+
+    passed : (m i : ℕ) → IsOther slot m i → find m i (x ∷ v.held) ≡ find m i v.held
+    passed m i ne = ap (λ b. cond b (Some x) (find m i v.held)) (not_at slot.meta slot.index m i x.place ne here)
+
+gained_each : (slot : Token) (v w : View) → GainsSlot slot.meta slot.index v w → AreFramed v → AreFramed w
+gained_each slot v w gains framed = same_each (x ∷ v.held) w.held gains.learns.slots each
+  where
+    x : Held
+    x = in_motion gains.group slot.index
+
+    each : (h : Held) → Among h (x ∷ v.held) → HasFrame h
+    each h (inl e) = subst HasFrame (sym e) (free_frame x refl)
+    each h (inr was) = framed h was
+
+gained_rest : (slot : Token) (v w : View) → GainsSlot slot.meta slot.index v w → KeepsRest v w
+gained_rest slot v w gains =
+    let is = gains.learns.view in record {
+      excuses = ap (λ (u : View). u.excuses) is;
+      sent = ap (λ (u : View). u.sent) is;
+      taken = ap (λ (u : View). u.taken) is;
+      more = gains.learns.came.words;
+      readings = gains.learns.came.readings;
+    }
+
+-- ---- whatever was answered
+pub answered_others : (v w : View) (answer : Answer) → GainsOk v w answer → IfOk answer (λ slot. KeepsOthers slot v w)
+answered_others v w (Ok slot) gains = gained_others slot v w gains
+answered_others v w (Err excuse) none = tt
+
+pub answered_all : (v w : View) (answer : Answer) → GainsErr v w answer → IfErr answer (λ excuse. KeepsAll v w)
+answered_all v w (Ok slot) none = tt
+answered_all v w (Err excuse) gains = same_all v w gains.learns.slots
+
+pub answered_rest : (v w : View) (answer : Answer) → GainsOk v w answer → OnOk answer (KeepsRest v w)
+answered_rest v w (Ok slot) gains = gained_rest slot v w gains
+answered_rest v w (Err excuse) none = tt
+
+answered_each : (v w : View) (answer : Answer) → GainsOk v w answer → GainsErr v w answer → AreFramed v → AreFramed w
+answered_each v w (Ok slot) gains none = gained_each slot v w gains
+answered_each v w (Err excuse) none gains = same_each v.held w.held gains.learns.slots
 
 pub answered_frames : (before after : Caller) (answer : Answer) → GainsOk before.view after.view answer → GainsErr before.view after.view answer
     → after.number ≡ before.number → KeepsFrames before after
-answered_frames before after answer ok err number = record {
-  number = number;
-  each = came_framed before.view after.view (answered_came before.view after.view answer ok err);
-}
+answered_frames before after answer ok err number = record { number = number; each = answered_each before.view after.view answer ok err }
 
 -- ---- the slot is apart from each that was there
 abbrev pub IsApartFrom : Caller → Token → Type 0
 IsApartFrom before slot = (token : Token) → HasSlot before token → IsApart token slot
-
--- a slot has no block where another token has one
-never_live : (hand : Caller) (slot : Token) (other : BlockToken) → HasSlot hand slot → HasBlock hand other
-    → other.slot.meta ≡ slot.meta → other.slot.index ≡ slot.index → ⊥
-never_live hand slot other has live same at =
-    let there : find slot.meta slot.index hand.view.held ≡ Some live.held = rw (same, at) at live.found in
-    let here : find slot.meta slot.index hand.view.held ≡ Some has.held = has.found in
-    let q : has.held ≡ live.held = cc in
-    let both : ◌≡◌ {A = Option Extent} None (Some (extent other.at other.len other.align)) = sym has.free ∙ ap (λ (h : Held). h.block) q ∙ live.live in
-    absurd (cc)
-
-live_apart : (hand : Caller) (slot : Token) (other : BlockToken) → HasSlot hand slot → HasBlock hand other → IsApart other.slot slot
-live_apart hand slot other has live = ⊎_elim
-    (λ (same : other.slot.meta ≡ slot.meta). ⊎_elim
-    (λ (here : other.slot.index ≡ slot.index). absurd (never_live hand slot other has live same here))
-    (λ (ne : other.slot.index ≢ slot.index). inr ne)
-    (cases_eq other.slot.index slot.index))
-    (λ (ne : other.slot.meta ≢ slot.meta). inl ne)
-    (cases_eq other.slot.meta slot.meta)
 
 pub answered_fresh : (before after : Caller) (class bytes : ℕ) (answer : Answer) → IfOk answer (IsSlotFor class bytes after)
     → IfOk answer (IsApartFrom before) → BlocksStay before after → IfOk answer (IsFresh before)

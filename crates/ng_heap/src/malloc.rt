@@ -2,13 +2,12 @@
 ghost use Rattle.std.specs.Prelude.{◌≡◌, ◌≢◌, ◌+◌, ◌++◌, ◌<◌, ◌≤◌, ◌↔◌, ◌∷◌, [], Err, IfErr, IfOk, OnOk};
 ghost use Rattle.ng_frame.specs.Keeps.{KeepsAll, KeepsOthers, KeepsRest, KeepsSlots};
 ghost use Rattle.ng_group.specs.Hands.{GainsExcuse};
-ghost use Rattle.ng_group.specs.Steps.{Came, GoesOn};
+ghost use Rattle.ng_group.specs.Steps.{GoesOn};
 ghost use Rattle.ng_heap.specs.Causes.{BuildsFor, HasRefusalCause, IsGivenNow};
 ghost use Rattle.ng_heap.specs.Keeps.{IsFresh, KeepsFrames};
 ghost use Rattle.ng_space.specs.Blocks.{BlockToken, HasBlock, HasFramed, OfSlot, Serves};
-ghost use Rattle.ng_space.specs.Passed.{HasExcuse};
+ghost use Rattle.ng_space.specs.Passed.{EntersNoMemory, HasExcuse};
 ghost use Rattle.ng_space.specs.Tokens.{HasSlot};
-ghost use Rattle.ng_view.specs.Steps.{without_one};
 ghost use Rattle.ng_terms.specs.Heap.{IsTooLarge, large};
 ghost use Rattle.ng_terms.specs.Histories.{refusal_entry};
 ghost use Rattle.ng_terms.specs.declared.entry.Entry.TheVariants.{Give};
@@ -94,13 +93,9 @@ impl<N: Name> Heap<N> {
         ensures cause { IfErr result (λ excuse. HasRefusalCause (P.count_gives core.old.rules) M.refused core.old core.new n (refusal.NoMemory excuse.number)) }
         ensures excuse { IfErr result (HasExcuse hand.new) }
         ensures excused { IfErr result (λ excuse. GainsExcuse excuse.number hand.old.view hand.new.view) }
-        ensures excuses { OnOk result (hand.new.view.excuses ≡ hand.old.view.excuses) }
-        ensures sent { hand.new.view.sent ≡ hand.old.view.sent }
-        ensures taken { hand.new.view.taken ≡ hand.old.view.taken }
-        ensures came { Came hand.old.view hand.new.view }
+        ensures rest { OnOk result (KeepsRest hand.old.view hand.new.view) }
         ensures others { IfOk result (λ slot. KeepsOthers slot hand.old.view hand.new.view) }
         ensures kept { IfErr result (λ excuse. KeepsAll hand.old.view hand.new.view) }
-        ensures slots { KeepsSlots hand.old.view hand.new.view }
         ensures frames { KeepsFrames hand.old hand.new }
         ensures spare { hand.new.spare ≡ hand.old.spare }
         ensures entries { hand.new.entries ≡ hand.old.entries }
@@ -120,11 +115,8 @@ impl<N: Name> Heap<N> {
         requires excuse { HasExcuse hand.old excuse }
         ensures why { result ≡ refusal.NoMemory excuse.number }
         ensures entries { hand.new.entries ≡ hand.old.entries ++ refusal_entry n result ∷ [] }
-        ensures excuses { hand.new.view.excuses ≡ without_one excuse.number hand.old.view.excuses }
-        ensures sent { hand.new.view.sent ≡ hand.old.view.sent }
-        ensures taken { hand.new.view.taken ≡ hand.old.view.taken }
-        ensures kept { KeepsAll hand.old.view hand.new.view }
-        ensures frames { KeepsFrames hand.old hand.new }
+        ensures view { EntersNoMemory hand.old.view hand.old.number n excuse.number hand.new.view }
+        ensures number { hand.new.number ≡ hand.old.number }
         ensures spare { hand.new.spare + 1 ≡ hand.old.spare }
     {
         let number = excuse.number();

@@ -1,10 +1,11 @@
 // Blocks that come and go over musl's rules, and a mapper that gives the lowest runs.
 ghost use Rattle.std.specs.Prelude.{◌≡◌, ◌∷◌, [], IfOk};
+ghost use Rattle.ng_group.specs.Hands.{IsApart};
 ghost use Rattle.ng_group.specs.Tests.{AreParts};
-ghost use Rattle.ng_heap.specs.Keeps.{IsFresh, KeepsAll, KeepsOthers};
+ghost use Rattle.ng_heap.specs.Keeps.{IsFresh};
 ghost use Rattle.ng_heap.specs.Tests.{MayClose};
 ghost use Rattle.ng_policy.specs.Ask.{AskInRange, IsCount};
-ghost use Rattle.ng_space.specs.Blocks.{HasBlock};
+ghost use Rattle.ng_space.specs.Blocks.{BlockToken, HasBlock};
 ghost use Rattle.ng_terms.specs.Heap.{empty};
 ghost use Rattle.ng_view.specs.declared.view.View.{View};
 
@@ -92,7 +93,7 @@ fn given<N: Name, P: Rules, R: Abort>(
     requires closes { MayClose core.old.seat hand.old }
     ensures block { HasBlock hand.new result }
     ensures fresh { IsFresh hand.old result.slot }
-    ensures kept { KeepsAll hand.old hand.new }
+    ensures blocks { (other : BlockToken) → HasBlock hand.old other → HasBlock hand.new other }
     ensures closes { MayClose core.new.seat hand.new }
 {
     assert!(rt; hand.spare() > 0);
@@ -115,7 +116,7 @@ fn frees_first<N: Name, P: Rules, R: Abort>(
 )
     requires closes { MayClose core.old.seat hand.old }
     requires block { HasBlock hand.old block }
-    ensures others { KeepsOthers block.slot hand.old hand.new }
+    ensures others { (other : BlockToken) → IsApart other.slot block.slot → HasBlock hand.old other → HasBlock hand.new other }
     ensures closes { MayClose core.new.seat hand.new }
 {
     assert!(rt; hand.spare() > 0);

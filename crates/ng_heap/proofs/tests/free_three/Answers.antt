@@ -8,28 +8,28 @@ use Rattle.ng_heap.proofs.tests.free_three.Goals as goal
 pub frees_first-requires-clause-block : goal.frees_first-requires-clause-block
 frees_first-requires-clause-block g c =
     let first : BlockToken = c.given-first.result in
-    let has = c.given-third.ensures.kept.blocks first (c.given-second.ensures.kept.blocks first c.given-first.ensures.block) in
-    c.given-fifth.ensures.kept.blocks first (c.given-fourth.ensures.kept.blocks first has)
+    let has = c.given-third.ensures.blocks first (c.given-second.ensures.blocks first c.given-first.ensures.block) in
+    c.given-fifth.ensures.blocks first (c.given-fourth.ensures.blocks first has)
 
 pub frees_first-requires-2-clause-block : goal.frees_first-requires-2-clause-block
 frees_first-requires-2-clause-block g c =
     let first : BlockToken = c.given-first.result in
     let second : BlockToken = c.given-second.result in
-    let has = c.given-fourth.ensures.kept.blocks second (c.given-third.ensures.kept.blocks second c.given-second.ensures.block) in
+    let has = c.given-fourth.ensures.blocks second (c.given-third.ensures.blocks second c.given-second.ensures.block) in
     let apart = apart_flips first.slot second.slot (c.given-second.ensures.fresh.blocks first c.given-first.ensures.block) in
-    c.given-sixth.ensures.kept.blocks second (c.frees_first.ensures.others.blocks second apart (c.given-fifth.ensures.kept.blocks second has))
+    c.given-sixth.ensures.blocks second (c.frees_first.ensures.others second apart (c.given-fifth.ensures.blocks second has))
 
 pub frees_at_once-requires : goal.frees_at_once-requires
 frees_at_once-requires g c =
     let first : BlockToken = c.given-first.result in
     let second : BlockToken = c.given-second.result in
     let third : BlockToken = c.given-third.result in
-    let has = c.given-fifth.ensures.kept.blocks third (c.given-fourth.ensures.kept.blocks third c.given-third.ensures.block) in
-    let has_first = c.given-second.ensures.kept.blocks first c.given-first.ensures.block in
+    let has = c.given-fifth.ensures.blocks third (c.given-fourth.ensures.blocks third c.given-third.ensures.block) in
+    let has_first = c.given-second.ensures.blocks first c.given-first.ensures.block in
     let of_first = apart_flips first.slot third.slot (c.given-third.ensures.fresh.blocks first has_first) in
     let of_second = apart_flips second.slot third.slot (c.given-third.ensures.fresh.blocks second c.given-second.ensures.block) in
-    let still = c.given-sixth.ensures.kept.blocks third (c.frees_first.ensures.others.blocks third of_first has) in
-    record { block = c.frees_first-2.ensures.others.blocks third of_second still }
+    let still = c.given-sixth.ensures.blocks third (c.frees_first.ensures.others third of_first has) in
+    record { block = c.frees_first-2.ensures.others third of_second still }
 
 pub end-requires : goal.end-requires
 end-requires g c =

@@ -1,35 +1,50 @@
-use Rattle.ng_heap.proofs.SendLemmas.{Receives, came_framed, came_frames, came_fresh, came_kept}
+use Rattle.std.proofs.Common.{◌∙◌}
+use Rattle.ng_frame.specs.Keeps.{KeepsOthers}
+use Rattle.ng_frame.proofs.Tokens.{framed_stays}
+use Rattle.ng_frame.proofs.Keeps.{loaded_all}
+use Rattle.ng_heap.specs.Keeps.{IsFresh}
+use Rattle.ng_heap.proofs.SendLemmas.{Receives, came_frames, came_fresh, came_others}
+use Rattle.ng_heap.proofs.StayLemmas.{fresh_slots}
 use Rattle.ng_heap.proofs.heap.Heap.receive.Given.{Over}
 use Rattle.ng_heap.proofs.heap.Heap.receive.Goals as goal
 
-receives : (g : Over) (c : goal.After-load g) → Receives c.args.hand.now c.join_parcel-block.new.hand c.load.new.hand c.parcel.inside.sealed
+receives : (g : Over) (c : goal.After-load g) → Receives c.args.hand.now c.join_parcel-block.new.hand c.load.new.hand c.args.parcel
 receives g c = record {
-  of = c.parcel.invariant;
+  of = c.join_parcel-block.ensures.one;
   joins = c.join_parcel-block.ensures.view;
-  number = c.join_parcel-block.ensures.number;
-  loads = record {
-    number = c.load.ensures.number;
-    word = c.load.result;
-    view = c.load.ensures.view;
-    once = c.load.ensures.once;
-  };
+  word = c.load.result;
+  loads = c.load.ensures.view;
+  once = c.load.ensures.once;
+  number = c.load.ensures.number ∙ c.join_parcel-block.ensures.number;
 }
+
+fresh : (g : Over) (c : goal.After-load g) → IsFresh c.args.hand.now c.join_parcel-block.result.slot
+fresh g c =
+    let join = c.join_parcel-block in
+    came_fresh c.args.hand.now join.new.hand c.load.new.hand c.args.parcel (receives g c) join.result _ join.ensures.block
+
+others : (g : Over) (c : goal.After-load g) → KeepsOthers c.join_parcel-block.result.slot c.args.hand.now.view c.load.new.hand.view
+others g c =
+    let join = c.join_parcel-block in
+    came_others c.args.hand.now join.new.hand c.load.new.hand c.args.parcel (receives g c) join.result _ join.ensures.block
 
 pub returns-clause-framed : goal.returns-clause-framed
 returns-clause-framed g c =
     let join = c.join_parcel-block in
-    came_framed c.args.hand.now join.new.hand c.load.new.hand c.parcel.inside.sealed (receives g c) join.result join.ensures.has
+    let slot = join.result.slot in
+    let kept = loaded_all join.new.hand.view c.load.new.hand.view 0 c.load.result c.load.ensures.view in
+    framed_stays join.new.hand c.load.new.hand c.load.ensures.number join.result (kept.slots slot.meta slot.index) join.ensures.has
 
 pub returns-clause-fresh : goal.returns-clause-fresh
-returns-clause-fresh g c =
-    let join = c.join_parcel-block in
-    came_fresh c.args.hand.now join.new.hand c.load.new.hand c.parcel.inside.sealed (receives g c) join.result _ join.ensures.block
+returns-clause-fresh g c = fresh g c
 
-pub returns-clause-kept : goal.returns-clause-kept
-returns-clause-kept g c =
-    came_kept c.args.hand.now c.join_parcel-block.new.hand c.load.new.hand c.parcel.inside.sealed (receives g c)
+pub returns-clause-others : goal.returns-clause-others
+returns-clause-others g c = others g c
+
+pub returns-clause-slots : goal.returns-clause-slots
+returns-clause-slots g c = fresh_slots c.args.hand.now c.join_parcel-block.result.slot (fresh g c) c.load.new.hand.view (others g c)
 
 pub returns-clause-frames : goal.returns-clause-frames
 returns-clause-frames g c =
     let join = c.join_parcel-block in
-    came_frames c.args.hand.now join.new.hand c.load.new.hand c.parcel.inside.sealed (receives g c) join.result _ join.ensures.block join.ensures.has
+    came_frames c.args.hand.now join.new.hand c.load.new.hand c.args.parcel (receives g c) join.result _ join.ensures.block join.ensures.has
