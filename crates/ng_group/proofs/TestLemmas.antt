@@ -1,35 +1,20 @@
--- What the tests need of the slots that a hand has, and of the class that serves a request.
-use Rattle.std.proofs.Common.{◌≡◌, ◌≢◌, ◌⊎◌, ℕ, ◌+◌, ◌*◌, ◌<◌, ◌≤◌, Bool, true, false, List, [], ◌∷◌, ◌++◌, refl, sym, ap, ◌∙◌, subst, ⊎_elim, inl, inr, arith}
+-- What callers need of the slots that a hand has, and of the class that they ask for.
+use Rattle.std.proofs.Common.{◌≡◌, ◌≢◌, ℕ, ◌*◌, ◌≤◌, Bool, true, false, List, [], ◌∷◌, ◌++◌, refl, sym, ap, ◌∙◌, subst, ⊎_elim, inl, inr, arith}
 use mathlib.Core.Bool.{true≢false}
 use Rattle.std.proofs.Math.Bool.{and-false}
 use Rattle.std.proofs.lemmas.Bool.{cases_eq, eq-eqb, eqb-true}
-use Rattle.std.proofs.lemmas.List.Elements.{All-cons, All-from_recursion, All-head, All-nil, All-tail, recursion_from_All}
+use Rattle.std.proofs.lemmas.List.Elements.{All-cons, All-from_recursion, All-nil, All-tail, recursion_from_All}
 use Rattle.std.proofs.lemmas.List.Sorted.{All-permutation, IsPermutation-sym, IsPermutation-to_front}
 use Rattle.std.proofs.lemmas.Map.Keys.{IsDistinct-IsPermutation, IsDistinct-cons, IsDistinct-head, IsDistinct-tail}
 use Rattle.std.specs.List.{IsDistinct}
 use Rattle.std.specs.Prelude.{◌&&◌, nat_eq, slice_index_or}
 use Rattle.std.specs.List.Sorted.{IsPermutation}
-use Rattle.ng_class.proofs.Classes.{units_of_next}
 use Rattle.ng_class.specs.Class as class
 use Rattle.ng_class.specs.Class.{units_of}
 use Rattle.ng_space.specs.Callers.{Caller}
 use Rattle.ng_space.specs.Tokens.{HasSlot, Token}
-use Rattle.ng_group.specs.ClassFor.{IsClassFor}
 use Rattle.ng_group.specs.Hands.{IsApart}
-use Rattle.ng_group.specs.States.{State}
 use Rattle.ng_group.specs.Tests.{HasAll, is_same_slot}
-
--- the class of a request has room for it
-pub class_fits : {M P : Type 0} {before after : State M P} {bytes class : ℕ} → IsClassFor before after bytes class → bytes + 4 ≤ 16 * units_of class
-class_fits {bytes = bytes} {class = class} told =
-    let least = told.least in let holds : bytes + 4 ≤ 16 * units_of least = told.is_least.holds in
-    ⊎_elim
-    (λ (up : class ≡ least + 1).
-    let to : least ≤ 30 = (told.up.0 up).fine.to in
-    let rises : units_of least < units_of (least + 1) = units_of_next least (omega arith) in
-    subst (λ (c : ℕ). bytes + 4 ≤ 16 * units_of c) (sym up) (omega arith))
-    (λ (stays : class ≢ least + 1). subst (λ (c : ℕ). bytes + 4 ≤ 16 * units_of c) (sym (told.stays stays)) holds)
-    (cases_eq class (least + 1))
 
 -- ---- tokens of different slots
 pub apart_flips : (token other : Token) → IsApart token other → IsApart other token
@@ -110,9 +95,6 @@ came_last hand new slot tokens others came apart has =
     permuted new (slot ∷ tokens) (tokens ++ slot ∷ []) (IsPermutation-sym _ _ (IsPermutation-to_front tokens slot)) (came_first hand new slot tokens others came apart has)
 
 -- ---- a slot goes
-pub has_one : (hand : Caller) (slot : Token) (tokens rest : List Token) → IsPermutation tokens (slot ∷ rest) → HasAll hand tokens → HasSlot hand slot
-has_one hand slot tokens rest moves has = All-head (HasSlot hand) slot rest (permuted hand tokens (slot ∷ rest) moves has).each
-
 pub went_one : (hand new : Caller) (slot : Token) (tokens rest : List Token) → IsPermutation tokens (slot ∷ rest)
     → ((token : Token) → HasSlot hand token → IsApart token slot → HasSlot new token) → HasAll hand tokens → HasAll new rest
 went_one hand new slot tokens rest moves others has =

@@ -1,5 +1,5 @@
 -- What the tests begin with, and what they know of the slots that a hand has.
-use Rattle.std.specs.Prelude.{◌≡◌, ℕ, ◌&&◌, Bool, List, All, nat_eq}
+use Rattle.std.specs.Prelude.{◌≡◌, ◌&&◌, Bool, List, All, nat_eq}
 use Rattle.std.specs.List.{IsDistinct}
 use Rattle.ng_mapper.specs.FirstFit.{refused_of, runs_of, span_of}
 use Rattle.ng_mapper.specs.declared.first_fit.FirstFit.{FirstFit}

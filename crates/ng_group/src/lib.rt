@@ -14,8 +14,3 @@ mod works;
 
 pub use heap_core::Core;
 pub use tables::Tables;
-
-#[cfg(test)]
-mod random_tests;
-#[cfg(test)]
-mod tests;

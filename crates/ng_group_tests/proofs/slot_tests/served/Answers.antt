@@ -1,5 +1,5 @@
 use Rattle.ng_group.proofs.TestLemmas.{class_1_fits}
-use Rattle.ng_group.proofs.tests.served.Goals as goal
+use Rattle.ng_group_tests.proofs.slot_tests.served.Goals as goal
 
 pub alloc_slot-requires-clause-bytes : goal.alloc_slot-requires-clause-bytes
 alloc_slot-requires-clause-bytes g c = class_1_fits

@@ -3,7 +3,7 @@ use Rattle.std.proofs.lemmas.List.Sorted.{IsPermutation-swap_remove}
 use Rattle.std.specs.List.Sorted.{IsPermutation}
 use Rattle.ng_space.specs.Tokens.{Token}
 use Rattle.ng_group.proofs.TestLemmas.{went_one}
-use Rattle.ng_group.proofs.random_tests.return_one.Goals as goal
+use Rattle.ng_group_tests.proofs.random_tests.return_one.Goals as goal
 
 pub returns-clause-slots : goal.returns-clause-slots
 returns-clause-slots g c =

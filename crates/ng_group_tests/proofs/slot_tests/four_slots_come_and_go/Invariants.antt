@@ -1,4 +1,4 @@
-use Rattle.ng_group.proofs.tests.four_slots_come_and_go.Given as goal
+use Rattle.ng_group_tests.proofs.slot_tests.four_slots_come_and_go.Given as goal
 
 -- the heap that was just made
 abbrev pub ghosts-serve_four : goal.ghosts-serve_four

@@ -1,6 +1,6 @@
 use Rattle.ng_space.specs.Tokens.{Token}
 use Rattle.ng_group.proofs.TestLemmas.{apart_flips}
-use Rattle.ng_group.proofs.tests.serve_four.Goals as goal
+use Rattle.ng_group_tests.proofs.slot_tests.serve_four.Goals as goal
 
 pub return_slot-requires : goal.return_slot-requires
 return_slot-requires g c =

@@ -1,4 +1,4 @@
-use Rattle.ng_group.proofs.tests.a_refused_call_leaves_an_excuse.Given as goal
+use Rattle.ng_group_tests.proofs.slot_tests.a_refused_call_leaves_an_excuse.Given as goal
 
 -- the heap that was just made
 abbrev pub ghosts-refuse_one : goal.ghosts-refuse_one

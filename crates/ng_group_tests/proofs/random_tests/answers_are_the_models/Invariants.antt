@@ -1,4 +1,4 @@
-use Rattle.ng_group.proofs.random_tests.answers_are_the_models.Given as goal
+use Rattle.ng_group_tests.proofs.random_tests.answers_are_the_models.Given as goal
 
 -- the heap that was just made
 abbrev pub ghosts-run : goal.ghosts-run

@@ -1,7 +1,7 @@
 use Rattle.std.proofs.Common.{subst, sym}
 use Rattle.ng_group.specs.Tests.{HasAll}
 use Rattle.ng_group.proofs.TestLemmas.{came_last}
-use Rattle.ng_group.proofs.random_tests.call_once.Goals as goal
+use Rattle.ng_group_tests.proofs.random_tests.call_once.Goals as goal
 
 pub returns-in-Ok-clause-slots : goal.returns-in-Ok-clause-slots
 returns-in-Ok-clause-slots g c =

@@ -5,9 +5,9 @@ ghost use Rattle.ng_group.specs.Tests.{AreParts, HasAll};
 ghost use Rattle.ng_space.specs.Passed.{HasExcuse};
 ghost use Rattle.ng_space.specs.Tokens.{HasSlot, Token};
 
-use crate::tests::{begin, count, keep, parts};
-use crate::{Core, Tables};
+use crate::heaps::{begin, count, keep, parts};
 use ng_class::THRESHOLD;
+use ng_group::{Core, Tables};
 use ng_mapper::FirstFit;
 use ng_policy::{Policy, Rules};
 use ng_space::{Blank, Excuse, Hand, Name, Slot, Space};

@@ -1,6 +1,6 @@
 use Rattle.std.proofs.Common.{arith}
 use Rattle.ng_group.proofs.TestLemmas.{has_none}
-use Rattle.ng_group.proofs.random_tests.run.Goals as goal
+use Rattle.ng_group_tests.proofs.random_tests.run.Goals as goal
 
 pub loop-call-init : goal.loop-call-init
 loop-call-init g c =
