@@ -17,7 +17,7 @@ use Rattle.ng_view.specs.declared.view.Run.{Run}
 use Rattle.ng_view.specs.declared.view.Start.{Start}
 use Rattle.ng_view.specs.declared.view.View.{View}
 use Rattle.ng_ledger.specs.Rings.{IsIn}
-use Rattle.ng_group.specs.Asking.{BuildsWanted, IsWalked, LeavesHeap, RefusedWanted, Want, areas}
+use Rattle.ng_group.specs.Asking.{BuildsWanted, IsWalked, LeavesHeap, RefusedWanted, Want, areas, group_runs}
 use Rattle.ng_group.specs.Serving.{FindsNoSlot, OnlyRing}
 use Rattle.ng_group.specs.States.{State}
 use Rattle.ng_group.specs.Steps.{Came}
@@ -32,11 +32,12 @@ none_inside {M = M} {P = P} class s inside found same none = subst (λ (x : Stat
 
 -- ---- the ring served the call
 pub builds_none : {M P : Type 0} (counts : Ask → ℕ → Type 0) (s after : State M P) (class bytes : ℕ) → OnlyRing class s after → BuildsWanted counts s after class bytes
-builds_none counts s after class bytes only = record {
+builds_none {M = M} {P = P} counts s after class bytes only = record {
   came = only.came;
   runs = λ r there. inl (subst (λ (rs : List Run). Among r rs) runs there);
   groups = λ g there. inl (subst (λ (gs : List Group). Among g gs) (ap (λ (v : View). v.desk.groups) only.view) there);
   one_area = inl (ap areas runs);
+  counted = inl (ap group_runs runs, ap (λ (x : State M P). x.counter) only.state);
 }
   where
     runs : after.seat.desk.layout.runs ≡ s.seat.desk.layout.runs
@@ -74,6 +75,7 @@ seeks {M = M} {P = P} class s found w stock m only none came groups nests = reco
   nests = nests ∙ ap (λ (v : View). v.desk.layout.nests) only.view;
   usage = ap (λ (x : State M P). x.usage) only.state;
   bounces = none.bounces;
+  counter = ap (λ (x : State M P). x.counter) only.state;
 }
 
 module _ {M P : Type 0} (class : ℕ) (s found : State M P) (only : OnlyRing class s found) where
@@ -155,6 +157,7 @@ module _ {M P : Type 0} (class : ℕ) (s found : State M P) (only : OnlyRing cla
       groups = refused_seeks.groups;
       nests = refused_seeks.nests;
       usage = refused_seeks.usage;
+      counter = refused_seeks.counter;
       rings = λ k known. walked class s (record found { seat = w; stock = stock; mapper = m }) refused_seeks k;
       runs = inl refused_runs;
     }

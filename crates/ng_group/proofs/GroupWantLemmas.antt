@@ -1,5 +1,5 @@
 -- What a call builds and asks the mapper for that goes on to a group of its own, by what its calls did.
-use Rattle.std.proofs.Common.{◌≡◌, ◌≢◌, ◌⊎◌, ℕ, ◌+◌, ◌<◌, true, List, ◌∷◌, refl, sym, ap, ◌∙◌, subst, ⊎_elim, inl, inr, arith}
+use Rattle.std.proofs.Common.{◌≡◌, ◌≢◌, ◌⊎◌, ℕ, ◌+◌, ◌%◌, ◌^◌, ◌<◌, Bool, true, not, List, ◌∷◌, refl, sym, ap, ◌∙◌, subst, ⊎_elim, inl, inr, arith}
 use Rattle.std.proofs.lemmas.Bool.{cases_eq}
 use Rattle.ng_lists.specs.Rings.{RingTable, ring_of}
 use Rattle.ng_lock_moves.specs.Notes.{plain_run}
@@ -10,7 +10,7 @@ use Rattle.ng_view.specs.Lists.{Among, count_of}
 use Rattle.ng_view.specs.declared.view.Group.{Group}
 use Rattle.ng_view.specs.declared.view.Run.{Run}
 use Rattle.ng_view.specs.declared.view.View.{View}
-use Rattle.ng_group.specs.Asking.{BuildsWanted, HasSlots, IsAreaWanted, IsAsked, IsCarried, IsGroupWanted, IsRunWanted, IsWalked, LeavesHeap, RefusedWanted, Want, WantsArea, WantsRun, areas, carried_bytes}
+use Rattle.ng_group.specs.Asking.{BuildsWanted, HasSlots, IsAreaWanted, IsAsked, IsCarried, IsCounted, IsGroupWanted, IsRunWanted, IsWalked, LeavesHeap, RefusedWanted, Want, WantsArea, WantsRun, areas, carried_bytes, group_runs}
 use Rattle.ng_group.specs.Building.{HasBuilt, LeavesAll}
 use Rattle.ng_group.specs.States.{State}
 use Rattle.ng_group.specs.Steps.{Came}
@@ -32,6 +32,16 @@ module _ {M P : Type 0} (counts : Ask → ℕ → Type 0) (s mid : State M P) (c
           let all : areas (runs_of mid) ≡ count_of area.run.area + areas (runs_of s) = ap areas area.runs in
           let one : count_of area.run.area ≡ 1 = ap count_of area.area in
           omega (arith, all, one)
+
+  -- no run for a group came then
+  none_grouped : group_runs (runs_of mid) ≡ group_runs (runs_of s)
+  none_grouped = ⊎_elim
+      (λ (free : TakesFree s mid). ap group_runs free.runs)
+      (λ (area : TakesArea s mid).
+      let all : group_runs (runs_of mid) ≡ count_of (not area.run.area) + group_runs (runs_of s) = ap group_runs area.runs in
+      let none : count_of (not area.run.area) ≡ 0 = ap (λ (b : Bool). count_of (not b)) area.area in
+      omega (arith, all, none))
+      took
 
   -- a run that was noted then
   run_was : (words : List (ℕ × ℕ)) → ((m : ℕ) → IsBareIn sought.came.words m → IsBareIn words m) → (r : Run) → Among r (runs_of mid) → IsRunWanted counts s words class bytes r
@@ -55,12 +65,14 @@ module _ {M P : Type 0} (counts : Ask → ℕ → Type 0) (s mid : State M P) (c
     }
 
     pub builds_run : (after : State M P) (base meta slots : ℕ) → Came mid.seat after.seat → slots ≡ (shape_of w.ask w.bytes w.count).count → HasBuilt meta class slots mid after
-        → runs_of after ≡ plain_run base (shape_of w.ask w.bytes w.count).pages ∷ runs_of mid → BuildsWanted counts s after class bytes
-    builds_run after base meta slots last slots_are built runs = record {
+        → runs_of after ≡ plain_run base (shape_of w.ask w.bytes w.count).pages ∷ runs_of mid → after.counter ≡ (mid.counter + 1) % 2 ^ 64
+        → BuildsWanted counts s after class bytes
+    builds_run after base meta slots last slots_are built runs counter = record {
       came = came;
       runs = λ r there. run r (subst (λ (rs : List Run). Among r rs) runs there);
       groups = λ g there. group g (subst (λ (gs : List Group). Among g gs) built.groups there);
       one_area = area_came came.words more (runs_of after) (ap areas runs ∙ none_more);
+      counted = inr (one_run, counter ∙ ap (λ n. (n + 1) % 2 ^ 64) sought.counter);
     }
       where
         came : Came s.seat after.seat
@@ -71,6 +83,11 @@ module _ {M P : Type 0} (counts : Ask → ℕ → Type 0) (s mid : State M P) (c
 
         none_more : areas (plain_run base (shape_of w.ask w.bytes w.count).pages ∷ runs_of mid) ≡ areas (runs_of mid)
         none_more = omega arith
+
+        one_run : group_runs (runs_of after) ≡ group_runs (runs_of s) + 1
+        one_run =
+            let all : group_runs (runs_of after) ≡ 1 + group_runs (runs_of mid) = ap group_runs runs in
+            omega (arith, all, none_grouped)
 
         run : (r : Run) → Among r (plain_run base (shape_of w.ask w.bytes w.count).pages ∷ runs_of mid) → IsRunWanted counts s came.words class bytes r
         run r (inl same) = inr (inr (ap (λ (x : Run). x.area) same, subst (λ (x : Run). WantsRun counts s came.words class bytes x.pages) (sym same) (wants_run came.words more)))
@@ -88,7 +105,8 @@ module _ {M P : Type 0} (counts : Ask → ℕ → Type 0) (s mid : State M P) (c
         group g (inr was) = inl (subst (λ (gs : List Group). Among g gs) sought.groups was)
 
     -- its run was refused
-    module _ (after : State M P) (inner : State M P) (left : LeavesAll mid inner) (last : Came mid.seat inner.seat) (seat : after.seat ≡ inner.seat) (rings : after.rings ≡ inner.rings) (usage : after.usage ≡ inner.usage) where
+    module _ (after : State M P) (inner : State M P) (left : LeavesAll mid inner) (last : Came mid.seat inner.seat) (seat : after.seat ≡ inner.seat) (rings : after.rings ≡ inner.rings) (usage : after.usage ≡ inner.usage)
+        (counter : after.counter ≡ inner.counter) where
       abbrev run_came : Came s.seat after.seat
       run_came = came_on s.seat mid.seat after.seat sought.came (record { words = last.words; readings = ap (λ (v : View). v.readings) seat ∙ last.readings })
 
@@ -111,6 +129,7 @@ module _ {M P : Type 0} (counts : Ask → ℕ → Type 0) (s mid : State M P) (c
         groups = ap (λ (v : View). v.desk.groups) seat ∙ ap (λ (v : View). v.desk.groups) left.seat ∙ sought.groups;
         nests = ap (λ (v : View). v.desk.layout.nests) seat ∙ ap (λ (v : View). v.desk.layout.nests) left.seat ∙ sought.nests;
         usage = usage ∙ left.usage ∙ sought.usage;
+        counter = counter ∙ left.counter ∙ sought.counter;
         rings = λ k known. ring k;
         runs = ⊎_elim
             (λ (free : TakesFree s mid). inl (runs_left ∙ free.runs))
@@ -157,13 +176,21 @@ module _ {M P : Type 0} (counts : Ask → ℕ → Type 0) (s mid : State M P) (c
       group_then g (inl noted) = inl (subst (λ (gs : List Group). Among g gs) sought.groups noted)
       group_then g (inr (v, last, slots)) = inr (v, last_more counts s mid class bytes sought w of_class of_bytes words more next carried rest reread v last, slots)
 
+    counted_then : IsCounted mid inner → (after : State M P) → runs_of after ≡ runs_of inner → after.counter ≡ inner.counter → IsCounted s after
+    counted_then (inl (runs, counter)) after same is = inl (ap group_runs same ∙ runs ∙ none_grouped, is ∙ counter ∙ sought.counter)
+    counted_then (inr (runs, counter)) after same is = inr (
+      ap group_runs same ∙ runs ∙ ap (λ n. n + 1) none_grouped,
+      is ∙ counter ∙ ap (λ n. (n + 1) % 2 ^ 64) sought.counter,
+    )
+
     pub builds_nested : (after : State M P) (meta : ℕ) → BuildsWanted counts mid inner next (carried_bytes w) → Came inner.seat after.seat → HasBuilt meta class w.count inner after
-        → runs_of after ≡ runs_of inner → BuildsWanted counts s after class bytes
-    builds_nested after meta inside last built runs = record {
+        → runs_of after ≡ runs_of inner → after.counter ≡ inner.counter → BuildsWanted counts s after class bytes
+    builds_nested after meta inside last built runs counter = record {
       came = came;
       runs = λ r there. run_then inside.came.words came.words more reread r (inside.runs r (subst (λ (rs : List Run). Among r rs) runs there));
       groups = λ g there. group g (subst (λ (gs : List Group). Among g gs) built.groups there);
       one_area = area_then inside.came.words came.words more reread inside.one_area (runs_of after) runs;
+      counted = counted_then inside.counted after runs counter;
     }
       where
         rest : Came mid.seat after.seat
@@ -190,7 +217,7 @@ module _ {M P : Type 0} (counts : Ask → ℕ → Type 0) (s mid : State M P) (c
         group g (inr was) = group_then inside.came.words came.words more reread g (inside.groups g was)
 
     -- the slot was refused
-    module _ (after : State M P) (seat : after.seat ≡ inner.seat) (rings : after.rings ≡ inner.rings) (usage : after.usage ≡ inner.usage) where
+    module _ (after : State M P) (seat : after.seat ≡ inner.seat) (rings : after.rings ≡ inner.rings) (usage : after.usage ≡ inner.usage) (counter : after.counter ≡ inner.counter) where
       abbrev slot_came : Came mid.seat inner.seat → Came s.seat after.seat
       slot_came last = came_on s.seat mid.seat after.seat sought.came (record { words = last.words; readings = ap (λ (v : View). v.readings) seat ∙ last.readings })
 
@@ -227,6 +254,7 @@ module _ {M P : Type 0} (counts : Ask → ℕ → Type 0) (s mid : State M P) (c
         groups = ap (λ (v : View). v.desk.groups) seat ∙ inside.groups ∙ sought.groups;
         nests = ap (λ (v : View). v.desk.layout.nests) seat ∙ inside.nests ∙ sought.nests;
         usage = usage ∙ inside.usage ∙ sought.usage;
+        counter = counter ∙ inside.counter ∙ sought.counter;
         rings = ring;
         runs = ⊎_elim free_runs area_runs took;
       }

@@ -29,9 +29,9 @@ most_same was mid now pages is same = omega arith
 -- ---- a run was refused, and of the books all stayed
 pub lone_left : {M P : Type 0} (s s' e : State M P) → s ≡ s'
     → e.seat ≡ record s.seat { excuses = e.seat.excuses; readings = e.seat.readings; desk = record s.seat.desk { refusals = e.seat.desk.refusals } }
-    → e.rings ≡ s.rings → e.parents ≡ s.parents → e.usage ≡ s.usage → LeavesAll s' e
-lone_left {M = M} {P = P} s s' e same seat rings parents usage =
-    subst (λ (x : State M P). LeavesAll x e) same (record { seat = seat; rings = rings; parents = parents; usage = usage })
+    → e.rings ≡ s.rings → e.parents ≡ s.parents → e.usage ≡ s.usage → e.counter ≡ s.counter → LeavesAll s' e
+lone_left {M = M} {P = P} s s' e same seat rings parents usage counter =
+    subst (λ (x : State M P). LeavesAll x e) same (record { seat = seat; rings = rings; parents = parents; usage = usage; counter = counter })
 
 -- ---- a meta was found
 module _ {M P : Type 0} (start : Start) (runs : M → List mapper.Run) (s s' : State M P) (same : s ≡ s') (meta : ℕ) (w : View) (stock : Stock) (now : M)
@@ -69,6 +69,7 @@ module _ {M P : Type 0} (start : Start) (runs : M → List mapper.Run) (s s' : S
     runs = w.desk.layout.runs;
     area = needed;
     run = built.run;
+    counter = built.counter;
   })
 
   -- or its run was refused
@@ -93,12 +94,13 @@ module _ {M P : Type 0} (start : Start) (runs : M → List mapper.Run) (s s' : S
         let first : Came s.seat w = (found_goes start s.seat (runs s.mapper) s.stock meta w (runs now) stock finds).came in
         subst (Came s.seat) (sym seat) (came_then s.seat w inner.seat first on.came)
 
-    pub lone_leaves : GoesOn w inner.seat → after.rings ≡ inner.rings → after.usage ≡ inner.usage → LeavesHeap s' after
-    lone_leaves on rings usage = subst (λ (x : State M P). LeavesHeap x after) same (record {
+    pub lone_leaves : GoesOn w inner.seat → after.rings ≡ inner.rings → after.usage ≡ inner.usage → after.counter ≡ inner.counter → LeavesHeap s' after
+    lone_leaves on rings usage counter = subst (λ (x : State M P). LeavesHeap x after) same (record {
       came = came on;
       groups = ap (λ (x : View). x.desk.groups) (seat ∙ left.seat) ∙ ap (λ (x : View). x.desk.groups) view;
       nests = ap (λ (x : View). x.desk.layout.nests) (seat ∙ left.seat) ∙ ap (λ (x : View). x.desk.layout.nests) view;
       usage = usage ∙ left.usage;
+      counter = counter ∙ left.counter;
       rings = λ k known. inl (ap (λ (t : RingTable). ring_of t k) (rings ∙ left.rings));
       runs = left_runs;
     })
@@ -116,12 +118,13 @@ module _ {M P : Type 0} (s s' : State M P) (same : s ≡ s') (was now : Refusals
   pub area_cause : (bytes : ℕ) → free_of s.stock ≡ [] → IsLoneRefused s' (record s' { seat = w }) bytes now.last
   area_cause bytes none = subst (λ (x : State M P). IsLoneRefused x (record s' { seat = w }) bytes now.last) same (inl (refuses.asked.last, none, unmapped))
 
-  pub area_leaves : (after : State M P) → after.seat ≡ w → after.rings ≡ s.rings → after.usage ≡ s.usage → LeavesHeap s' after
-  area_leaves after seat rings usage = subst (λ (x : State M P). LeavesHeap x after) same (record {
+  pub area_leaves : (after : State M P) → after.seat ≡ w → after.rings ≡ s.rings → after.usage ≡ s.usage → after.counter ≡ s.counter → LeavesHeap s' after
+  area_leaves after seat rings usage counter = subst (λ (x : State M P). LeavesHeap x after) same (record {
     came = subst (Came s.seat) (sym seat) (refused_goes s.seat w was now 1 number refuses).came;
     groups = ap (λ (x : View). x.desk.groups) (seat ∙ refuses.note.view);
     nests = ap (λ (x : View). x.desk.layout.nests) (seat ∙ refuses.note.view);
     usage = usage;
+    counter = counter;
     rings = λ k known. inl (ap (λ (t : RingTable). ring_of t k) rings);
     runs = inl (ap (λ (x : View). x.desk.layout.runs) seat ∙ unmapped);
   })

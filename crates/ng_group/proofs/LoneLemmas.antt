@@ -1,5 +1,5 @@
 -- What stands of the books once a group that is one block has come on a run of its own.
-use Rattle.std.proofs.Common.{◌≡◌, ◌≢◌, ◌⊎◌, ℕ, ◌+◌, ◌-◌, ◌*◌, ◌/◌, ◌%◌, ◌<◌, ◌≤◌, min, eqb, cond, Bool, false, true, List, [], ◌∷◌, ◌++◌, Contains, refl, sym, ap, subst, ◌∙◌, ⊎_elim, inl, inr, arith}
+use Rattle.std.proofs.Common.{◌≡◌, ◌≢◌, ◌⊎◌, ℕ, ◌+◌, ◌-◌, ◌*◌, ◌/◌, ◌%◌, ◌^◌, ◌<◌, ◌≤◌, min, eqb, cond, Bool, false, true, List, [], ◌∷◌, ◌++◌, Contains, refl, sym, ap, subst, ◌∙◌, ⊎_elim, inl, inr, arith}
 use Rattle.std.proofs.lemmas.Bool.{cases_eq, eq-eqb}
 use Rattle.std.proofs.lemmas.Grind.{div_ceil_times}
 use Rattle.ng_build.specs.Cells.{knowing}
@@ -280,8 +280,9 @@ module _ {start : Start} {span span' : Span} {live live' : List mapper.Run} {was
   }
 
   -- and nothing else did
-  pub built_alone : {M P : Type 0} (s s' e : State M P) (pages : ℕ) → s ≡ s' → s.seat ≡ l.seat → e.seat ≡ w → g.maplen ≡ pages → BuildsAlone g.meta pages s' e
-  built_alone {M = M} {P = P} s s' e pages same was is paged = subst (λ (x : State M P). BuildsAlone g.meta pages x e) same (record {
+  pub built_alone : {M P : Type 0} (s s' e : State M P) (pages : ℕ) → s ≡ s' → s.seat ≡ l.seat → e.seat ≡ w → g.maplen ≡ pages
+      → e.counter ≡ (s.counter + 1) % 2 ^ 64 → BuildsAlone g.meta pages s' e
+  built_alone {M = M} {P = P} s s' e pages same was is paged counter = subst (λ (x : State M P). BuildsAlone g.meta pages x e) same (record {
     group = g;
     of_meta = refl;
     of_class = c.kind.lone;
@@ -291,4 +292,5 @@ module _ {start : Start} {span span' : Span} {live live' : List mapper.Run} {was
     run = ap (λ (x : View). x.desk.layout.runs) (is ∙ view)
         ∙ ap (λ n. plain_run g.base n ∷ l.seat.desk.layout.runs) paged
         ∙ ap (λ (x : View). plain_run g.base pages ∷ x.desk.layout.runs) (sym was);
+    counter = counter;
   })

@@ -307,6 +307,7 @@ module _ {M P : Type 0} where
     unmapped = λ whole. absurd (true≢false (sym whole ∙ is));
     groups = λ back. ap (λ (v : View). v.desk.groups) only.view;
     stays = λ back. ap (λ (s : State M P). runs s.mapper) only.state;
+    counter = ap (λ (s : State M P). s.counter) only.state;
   }
 
   -- the group ended, and no group came then
@@ -314,8 +315,8 @@ module _ {M P : Type 0} where
       (is : answer ≡ true) (takes : TakesWhole keeps before meta index found answer taken) where
     returns_ended : (ended : View) (after : State M P) → Came taken after.seat → IsUnborn ended.desk.groups meta → AreFewer ended after.seat
         → (0 < found.maplen → ¬ Contains (runs after.mapper) (found.base, found.maplen))
-        → Returns keeps runs before after meta index found
-    returns_ended ended after came unborn fewer unmapped = record {
+        → after.counter ≡ before.counter → Returns keeps runs before after meta index found
+    returns_ended ended after came unborn fewer unmapped counter = record {
       answer = answer;
       taken = taken;
       takes = takes;
@@ -324,19 +325,20 @@ module _ {M P : Type 0} where
       unmapped = λ whole. unmapped;
       groups = λ back. absurd (true≢false (sym is ∙ back));
       stays = λ back. absurd (true≢false (sym is ∙ back));
+      counter = counter;
     }
 
     -- with its run
     pub returns_run : {s now : State M P} (put' : Stock) → s ≡ now → Came taken now.seat → IsUnborn now.seat.desk.groups meta → ¬ Contains (runs now.mapper) (found.base, found.maplen)
-        → Returns keeps runs before (record s { stock = put' }) meta index found
-    returns_run {s} {now} put' same came unborn unmapped = subst (λ (x : State M P). Returns keeps runs before (record x { stock = put' }) meta index found) (sym same)
-        (returns_ended now.seat (record now { stock = put' }) came unborn (fewer_same now.seat) (λ paged. unmapped))
+        → now.counter ≡ before.counter → Returns keeps runs before (record s { stock = put' }) meta index found
+    returns_run {s} {now} put' same came unborn unmapped counter = subst (λ (x : State M P). Returns keeps runs before (record x { stock = put' }) meta index found) (sym same)
+        (returns_ended now.seat (record now { stock = put' }) came unborn (fewer_same now.seat) (λ paged. unmapped) counter)
 
     -- or in the slot of another, which was returned
     pub returns_slot : {s now : State M P} (put' : Stock) (ended : View) → s ≡ now → Came taken now.seat → IsUnborn ended.desk.groups meta → AreFewer ended now.seat → found.maplen ≡ 0
-        → Returns keeps runs before (record s { stock = put' }) meta index found
-    returns_slot {s} {now} put' ended same came unborn fewer nested = subst (λ (x : State M P). Returns keeps runs before (record x { stock = put' }) meta index found) (sym same)
-        (returns_ended ended (record now { stock = put' }) came unborn fewer (λ paged. absurd (none paged)))
+        → now.counter ≡ before.counter → Returns keeps runs before (record s { stock = put' }) meta index found
+    returns_slot {s} {now} put' ended same came unborn fewer nested counter = subst (λ (x : State M P). Returns keeps runs before (record x { stock = put' }) meta index found) (sym same)
+        (returns_ended ended (record now { stock = put' }) came unborn fewer (λ paged. absurd (none paged)) counter)
       where
         none : 0 < found.maplen → ⊥
         none paged = omega arith

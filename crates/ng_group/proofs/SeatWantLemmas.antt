@@ -1,5 +1,5 @@
 -- What a call for a slot builds and asks for, by the contracts of its calls.
-use Rattle.std.proofs.Common.{◌≡◌, ◌⊎◌, ◌↔◌, ℕ, ◌+◌, ◌*◌, ◌<◌, Bool, true, false, IsTrue, List, ◌∷◌, refl, sym, ap, ◌∙◌, subst, arith}
+use Rattle.std.proofs.Common.{◌≡◌, ◌⊎◌, ◌↔◌, ℕ, ◌+◌, ◌*◌, ◌%◌, ◌^◌, ◌<◌, Bool, true, false, IsTrue, List, ◌∷◌, refl, sym, ap, ◌∙◌, subst, arith}
 use Rattle.ng_view.specs.Lists.{count_of}
 use Rattle.ng_class.specs.Class.{IsLeastClass, units_of}
 use Rattle.ng_lock_moves.specs.Notes.{plain_run}
@@ -70,9 +70,10 @@ module _ {M P : Type 0} {start : Start} {runs : M → List mapper.Run} {gives : 
   -- ---- with a run of its own
   module _ (large : ¬ IsNestedSize class count) where
     pub mapped_builds : (after : State M P) → GoesOn w after.seat → HasBuilt meta ask.class (shape_of ask bytes count).count mid after
-        → ((base : ℕ) × (after.seat.desk.layout.runs ≡ plain_run base (shape_of ask bytes count).pages ∷ w.desk.layout.runs)) → BuildsWanted counts s after class bytes
-    mapped_builds after on built run = builds_run counts s mid class bytes sought took want refl refl asked large after run.0 meta (shape_of ask bytes count).count on.came refl
-        (subst (λ k. HasBuilt meta k (shape_of ask bytes count).count mid after) was.asks.class_is built) run.1
+        → ((base : ℕ) × (after.seat.desk.layout.runs ≡ plain_run base (shape_of ask bytes count).pages ∷ w.desk.layout.runs))
+        → after.counter ≡ (inside.counter + 1) % 2 ^ 64 → BuildsWanted counts s after class bytes
+    mapped_builds after on built run counter = builds_run counts s mid class bytes sought took want refl refl asked large after run.0 meta (shape_of ask bytes count).count on.came refl
+        (subst (λ k. HasBuilt meta k (shape_of ask bytes count).count mid after) was.asks.class_is built) run.1 counter
 
   -- ---- in a slot of another group
   module _ (small : IsNestedSize class count) (next size : ℕ) (size_is : size ≡ 16 * units_of class * count + 12) (least : IsLeastClass size next) where
@@ -80,10 +81,10 @@ module _ {M P : Type 0} {start : Start} {runs : M → List mapper.Run} {gives : 
     carried = record { asked = asked; small = small; least = subst (λ n. IsLeastClass n next) size_is least }
 
     pub nested_builds : (inner after : State M P) → BuildsWanted (gives inside.rules) mid inner next size → GoesOn inner.seat after.seat → HasBuilt meta class count inner after
-        → after.seat.desk.layout.runs ≡ inner.seat.desk.layout.runs → BuildsWanted counts s after class bytes
-    nested_builds inner after inner_builds on built same_runs = builds_nested counts s mid class bytes sought took want refl refl next carried inner after meta
+        → after.seat.desk.layout.runs ≡ inner.seat.desk.layout.runs → after.counter ≡ inner.counter → BuildsWanted counts s after class bytes
+    nested_builds inner after inner_builds on built same_runs counter = builds_nested counts s mid class bytes sought took want refl refl next carried inner after meta
         (subst (λ n. BuildsWanted counts mid inner next n) size_is (subst (λ (p : P). BuildsWanted (gives p) mid inner next size) same_rules inner_builds))
-        on.came built same_runs
+        on.came built same_runs counter
 
   -- ---- a map call was refused, and the meta went to the stock
   module _ (inner : State M P) {e : State M P} (same : e ≡ inner) (put : Stock) where
@@ -96,16 +97,19 @@ module _ {M P : Type 0} {start : Start} {runs : M → List mapper.Run} {gives : 
     usage : e.usage ≡ inner.usage
     usage = ap (λ (x : State M P). x.usage) same
 
+    counter : e.counter ≡ inner.counter
+    counter = ap (λ (x : State M P). x.counter) same
+
     -- for the run of the group
     module _ (large : ¬ IsNestedSize class count) (on : GoesOn w inner.seat) (left : LeavesAll mid inner) where
       pub mapped_cause : (refused : M → Refusals) → (refused inner.mapper).last ≡ (shape_of ask bytes count).pages
           → RefusedWanted counts s (record e { stock = put }) class bytes (refused e.mapper).last
-      mapped_cause refused is = run_cause counts s mid class bytes sought took want refl refl asked large (record e { stock = put }) inner left on.came seat rings usage
+      mapped_cause refused is = run_cause counts s mid class bytes sought took want refl refl asked large (record e { stock = put }) inner left on.came seat rings usage counter
           (refused e.mapper).last
           (ap (λ (x : State M P). (refused x.mapper).last) same ∙ is)
 
       pub mapped_leaves : LeavesHeap s (record e { stock = put })
-      mapped_leaves = run_leaves counts s mid class bytes sought took want refl refl asked large (record e { stock = put }) inner left on.came seat rings usage
+      mapped_leaves = run_leaves counts s mid class bytes sought took want refl refl asked large (record e { stock = put }) inner left on.came seat rings usage counter
 
     -- in the call for the slot
     module _ (small : IsNestedSize class count) (next size : ℕ) (size_is : size ≡ 16 * units_of class * count + 12) (least : IsLeastClass size next) where
@@ -123,6 +127,7 @@ module _ {M P : Type 0} {start : Start} {runs : M → List mapper.Run} {gives : 
           seat
           rings
           usage
+          counter
           (refused e.mapper).last
           (subst (λ n. RefusedWanted counts mid inner next (carried_bytes want) n) (sym (ap (λ (x : State M P). (refused x.mapper).last) same))
           (inner_cause (refused inner.mapper).last cause))
@@ -138,6 +143,7 @@ module _ {M P : Type 0} {start : Start} {runs : M → List mapper.Run} {gives : 
           seat
           rings
           usage
+          counter
           leaves
           (told.came.words, told.one_area)
           known

@@ -94,6 +94,7 @@ pub record Seeks {M P : Type 0} (class : ℕ) (s mid : State M P) : Type 0 where
   pub nests : mid.seat.desk.layout.nests ≡ s.seat.desk.layout.nests
   pub usage : mid.usage ≡ s.usage
   pub bounces : mid.bounces ≡ s.bounces
+  pub counter : mid.counter ≡ s.counter
 
 abbrev pub runs_of : {M P : Type 0} → State M P → List Run
 runs_of s = s.seat.desk.layout.runs

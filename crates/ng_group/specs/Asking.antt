@@ -1,5 +1,5 @@
 -- What a call builds, and when it asks the mapper for pages.
-use Rattle.std.specs.Prelude.{◌≡◌, ◌⊎◌, ℕ, ◌+◌, ◌*◌, ◌<◌, ◌∷◌, ◌++◌, [], List, length, true, false}
+use Rattle.std.specs.Prelude.{◌≡◌, ◌⊎◌, ℕ, ◌+◌, ◌*◌, ◌%◌, ◌^◌, ◌<◌, ◌∷◌, ◌++◌, [], List, length, not, true, false}
 use Rattle.ng_class.specs.Class.{IsLeastClass, units_of}
 use Rattle.ng_lists.specs.Rings.{ring_of}
 use Rattle.ng_policy.specs.Ask.{IsCount}
@@ -78,10 +78,21 @@ pub record HasSlots (w : Want) (g : Group) : Type 0 where
 abbrev pub areas : List Run → ℕ
 areas runs = total_by (λ (r : Run). count_of r.area) runs
 
+-- and how many are for groups
+abbrev pub group_runs : List Run → ℕ
+group_runs runs = total_by (λ (r : Run). count_of (not r.area)) runs
+
 -- no area came, or one did, which was wanted
 abbrev pub IsAreaWanted : {M P : Type 0} → (Ask → ℕ → Type 0) → State M P → State M P → List (ℕ × ℕ) → ℕ → ℕ → Type 0
 IsAreaWanted counts before after words class bytes = (areas after.seat.desk.layout.runs ≡ areas before.seat.desk.layout.runs)
     ⊎ ((areas after.seat.desk.layout.runs ≡ areas before.seat.desk.layout.runs + 1) × WantsArea counts before words class bytes)
+
+-- no run for a group came, and the counter is as before; or one did, and the counter rose by one
+abbrev pub IsCounted : {M P : Type 0} → State M P → State M P → Type 0
+IsCounted before after =
+    ((group_runs after.seat.desk.layout.runs ≡ group_runs before.seat.desk.layout.runs) × (after.counter ≡ before.counter))
+    ⊎ ((group_runs after.seat.desk.layout.runs ≡ group_runs before.seat.desk.layout.runs + 1)
+    × (after.counter ≡ (before.counter + 1) % 2 ^ 64))
 
 -- the run was noted, or is an area that was wanted, or one for a wanted group
 abbrev pub IsRunWanted : {M P : Type 0} → (Ask → ℕ → Type 0) → State M P → List (ℕ × ℕ) → ℕ → ℕ → Run → Type 0
@@ -94,12 +105,14 @@ abbrev pub IsGroupWanted : {M P : Type 0} → (Ask → ℕ → Type 0) → State
 IsGroupWanted counts s words class bytes g = Among g s.seat.desk.groups
     ⊎ ((w : Want) × IsLastWanted counts s words class bytes w × HasSlots w g)
 
--- a call for so many bytes of a class built nothing that wasn't wanted, and mapped one area at most
+-- a call for so many bytes of a class built nothing that wasn't wanted, mapped one area at most, and counted the run that it
+-- mapped for a group
 pub record BuildsWanted {M P : Type 0} (counts : Ask → ℕ → Type 0) (before after : State M P) (class bytes : ℕ) : Type 0 where
   pub came : Came before.seat after.seat
   pub runs : (r : Run) → Among r after.seat.desk.layout.runs → IsRunWanted counts before came.words class bytes r
   pub groups : (g : Group) → Among g after.seat.desk.groups → IsGroupWanted counts before came.words class bytes g
   pub one_area : IsAreaWanted counts before after came.words class bytes
+  pub counted : IsCounted before after
 
 -- the refused map call was for an area that was wanted, and no area came; or for the run of a wanted group, and one area
 -- came at most
@@ -113,13 +126,14 @@ pub record RefusedWanted {M P : Type 0} (counts : Ask → ℕ → Type 0) (befor
 abbrev pub IsWalked : List (ℕ × ℕ) → List ℕ → List ℕ → Type 0
 IsWalked words before after = (after ≡ before) ⊎ ((first : ℕ) × (before ≡ first ∷ after) × IsBareIn words first)
 
--- the groups, the slots that carry and the usage are as before, of each ring the first group may have left, and the runs are
--- as before but for one new area of one page at most
+-- the groups, the slots that carry, the usage and the counter are as before, of each ring the first group may have left, and
+-- the runs are as before but for one new area of one page at most
 pub record LeavesHeap {M P : Type 0} (before after : State M P) : Type 0 where
   pub came : Came before.seat after.seat
   pub groups : after.seat.desk.groups ≡ before.seat.desk.groups
   pub nests : after.seat.desk.layout.nests ≡ before.seat.desk.layout.nests
   pub usage : after.usage ≡ before.usage
+  pub counter : after.counter ≡ before.counter
   pub rings : (k : ℕ) → k < 48 → IsWalked came.words (ring_of before.rings k) (ring_of after.rings k)
   pub runs : (after.seat.desk.layout.runs ≡ before.seat.desk.layout.runs)
       ⊎ ((r : Run) × (r.area ≡ true) × (r.pages ≡ 1) × (after.seat.desk.layout.runs ≡ r ∷ before.seat.desk.layout.runs))

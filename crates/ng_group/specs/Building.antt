@@ -48,7 +48,8 @@ pub record IsCarriedBy {M P : Type 0} (meta parent index : ℕ) (before after : 
   pub of_index : place.index ≡ index
   pub nests : after.seat.desk.layout.nests ≡ record { place = place; child = meta } ∷ before.seat.desk.layout.nests
 
--- of the books all is as before, and of the seat all but its excuses, its readings and the number of the last refusal
+-- of the books and the counter all is as before, and of the seat all but its excuses, its readings and the number of the last
+-- refusal
 pub record LeavesAll {M P : Type 0} (before after : State M P) : Type 0 where
   pub seat : after.seat ≡ record before.seat {
     excuses = after.seat.excuses;
@@ -58,3 +59,4 @@ pub record LeavesAll {M P : Type 0} (before after : State M P) : Type 0 where
   pub rings : after.rings ≡ before.rings
   pub parents : after.parents ≡ before.parents
   pub usage : after.usage ≡ before.usage
+  pub counter : after.counter ≡ before.counter

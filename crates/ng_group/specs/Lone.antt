@@ -1,5 +1,5 @@
 -- What a call for a block that is a group by itself builds, and when it asks the mapper for pages.
-use Rattle.std.specs.Prelude.{◌≡◌, ◌⊎◌, ℕ, ◌∷◌, [], List, false, true}
+use Rattle.std.specs.Prelude.{◌≡◌, ◌⊎◌, ℕ, ◌+◌, ◌%◌, ◌^◌, ◌∷◌, [], List, false, true}
 use Rattle.ng_shelf.specs.Stock.{free_of}
 use Rattle.ng_terms.specs.Accounts.{pages_for}
 use Rattle.ng_view.specs.declared.view.Group.{Group}
@@ -11,8 +11,8 @@ abbrev pub IsAreaNeeded : {M P : Type 0} → State M P → List Run → Type 0
 IsAreaNeeded before runs = (runs ≡ before.seat.desk.layout.runs)
     ⊎ ((free_of before.stock ≡ []) × ((r : Run) × (r.area ≡ true) × (r.pages ≡ 1) × (runs ≡ r ∷ before.seat.desk.layout.runs)))
 
--- the group of that meta came, which is one block on a run of its own, of so many pages; no other group came, and no other
--- run
+-- the group of that meta came, which is one block on a run of its own, of so many pages, and the run was counted; no other
+-- group came, and no other run
 pub record BuildsAlone {M P : Type 0} (meta pages : ℕ) (before after : State M P) : Type 0 where
   pub group : Group
   pub of_meta : group.meta ≡ meta
@@ -21,9 +21,10 @@ pub record BuildsAlone {M P : Type 0} (meta pages : ℕ) (before after : State M
   pub of_pages : group.maplen ≡ pages
   pub groups : after.seat.desk.groups ≡ group ∷ before.seat.desk.groups
   pub run : after.seat.desk.layout.runs ≡ record { addr = group.base; pages = pages; area = false } ∷ before.seat.desk.layout.runs
+  pub counter : after.counter ≡ (before.counter + 1) % 2 ^ 64
 
--- one group came, of that meta, which is one block on a run of its own, of the pages that so many bytes and 20 take; and
--- one area at most, which was needed
+-- one group came, of that meta, which is one block on a run of its own, of the pages that so many bytes and 20 take, and the
+-- counter rose by one; and one area at most came, which was needed
 pub record BuildsLone {M P : Type 0} (meta : ℕ) (before after : State M P) (bytes : ℕ) : Type 0 where
   pub group : Group
   pub of_meta : group.meta ≡ meta
@@ -34,6 +35,7 @@ pub record BuildsLone {M P : Type 0} (meta : ℕ) (before after : State M P) (by
   pub runs : List Run
   pub area : IsAreaNeeded before runs
   pub run : after.seat.desk.layout.runs ≡ record { addr = group.base; pages = pages_for bytes; area = false } ∷ runs
+  pub counter : after.counter ≡ (before.counter + 1) % 2 ^ 64
 
 -- the refused map call was for an area that was needed, and no area came; or for the block's run, and one area came at
 -- most

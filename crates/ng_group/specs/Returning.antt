@@ -98,7 +98,7 @@ pub record TakesWhole {M P : Type 0} (keeps : Spare → Bool → Type 0) (before
 
 -- a slot of that index was returned to a live group whose numbers are found, and what was read then is of the call's
 -- readings. Where its slots were all taken, no live group is of the meta then, and its run, if it had one, is no more the
--- mapper's. Else the same groups live, on the same runs
+-- mapper's. Else the same groups live, on the same runs. The counter of runs mapped for groups is as before
 pub record Returns {M P : Type 0} (keeps : Spare → Bool → Type 0) (runs : M → List mapper.Run) (before after : State M P) (meta index : ℕ) (found : LiveGroup) : Type 0 where
   pub answer : Bool
   pub taken : View
@@ -108,6 +108,7 @@ pub record Returns {M P : Type 0} (keeps : Spare → Bool → Type 0) (runs : M 
   pub unmapped : answer ≡ true → 0 < found.maplen → ¬ Contains (runs after.mapper) (found.base, found.maplen)
   pub groups : answer ≡ false → after.seat.desk.groups ≡ before.seat.desk.groups
   pub stays : answer ≡ false → runs after.mapper ≡ runs before.mapper
+  pub counter : after.counter ≡ before.counter
 
 -- the same of a slot that a hand had: its group is live, and the words of its meta were read first
 pub record ReturnsOfHand {M P : Type 0} (keeps : Spare → Bool → Type 0) (runs : M → List mapper.Run) (before after : State M P) (meta index : ℕ) : Type 0 where

@@ -1,5 +1,5 @@
 // New groups, on runs of their own and in slots of others.
-ghost use Rattle.std.specs.Prelude.{◌≡◌, ℕ, ◌+◌, ◌*◌, ◌<◌, ◌≤◌, ◌^◌, ◌∷◌, [], IfErr, OnErr, OnOk, max, slice_index};
+ghost use Rattle.std.specs.Prelude.{◌≡◌, ℕ, ◌+◌, ◌*◌, ◌%◌, ◌<◌, ◌≤◌, ◌^◌, ◌∷◌, [], IfErr, OnErr, OnOk, max, slice_index};
 ghost use Rattle.ng_class.specs.Class.{IsLeastClass, units_of};
 ghost use Rattle.ng_meta.specs.Place.{IsMetaPlace};
 ghost use Rattle.ng_policy.specs.Ask.{AskInRange, IsCount};
@@ -62,6 +62,7 @@ impl<N: Name, M: Mapper, P: Rules> Works<N, M, P> {
         ensures left { OnErr result (LeavesAll self.old self.new) }
         ensures stock { self.new.stock ≡ self.old.stock }
         ensures rules { self.new.rules ≡ self.old.rules }
+        ensures counted { OnOk result (self.new.counter ≡ (self.old.counter + 1) % 2 ^ 64) }
     {
         self.rings.stand_once();
         let class = ask.class;
@@ -112,6 +113,7 @@ impl<N: Name, M: Mapper, P: Rules> Works<N, M, P> {
         ensures mapper { self.new.mapper ≡ self.old.mapper }
         ensures stock { self.new.stock ≡ self.old.stock }
         ensures rules { self.new.rules ≡ self.old.rules }
+        ensures counter { self.new.counter ≡ self.old.counter }
     {
         self.rings.stand_once();
         let (parent, index) = slot;

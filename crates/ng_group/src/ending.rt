@@ -38,6 +38,7 @@ impl<N: Name, M: Mapper, P: Rules> Works<N, M, P> {
         ensures calm { IsCalm self.old.seat self.new.seat (M.refused self.old.mapper) (M.refused self.new.mapper) }
         ensures fewer { AreFewer self.old.seat self.new.seat }
         ensures rules { self.new.rules ≡ self.old.rules }
+        ensures counter { self.new.counter ≡ self.old.counter }
         ensures slot { IfSome result (λ slot. HasReturned self.new.seat slot.0 slot.1) }
         ensures above { IfSome result (λ slot. IsAbove group.now.class self.new.seat slot.0) }
         ensures nested { IfSome result (λ slot. group.now.maplen ≡ 0) }

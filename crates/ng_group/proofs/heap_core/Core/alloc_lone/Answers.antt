@@ -78,7 +78,7 @@ pub returns-in-Ok-clause-builds : goal.returns-in-Ok-clause-builds
 returns-in-Ok-clause-builds g c =
     passed_lone c.self.view_is (works_of c.self-inside.view_is) _
     (ap (λ (x : View). x.desk) c.slot_to_hand.ensures.seat)
-    c.args.bytes c.in-Ok.meta c.slot_to_hand.result.meta c.slot_to_hand.ensures.meta
+    c.args.bytes c.in-Ok.meta c.slot_to_hand.result.meta c.slot_to_hand.ensures.meta refl
     c.in-Ok.ensures.builds
 
 -- ---- the seat passed on an excuse
@@ -140,6 +140,7 @@ returns-in-Err-clause-leaves g c =
     passed_leaves c.self.view_is (works_of c.self-inside.view_is) _
     (ap (λ (x : View). x.desk) c.excuse_to_hand.ensures.seat)
     (ap (λ (x : View). x.readings) c.excuse_to_hand.ensures.seat)
+    refl
     refl
     refl
     c.in-Err.ensures.leaves

@@ -137,6 +137,7 @@ returns-in-Ok-clause-builds g c =
     passed_builds g.P.Rules.count_gives (λ m. (g.M.Mapper.refused m).last) c.args.class c.args.bytes c.self.view_is (works_of c.self-inside-2.view_is) _
     (ap (λ (x : View). x.desk) c.slot_to_hand.ensures.seat)
     (ap (λ (x : View). x.readings) c.slot_to_hand.ensures.seat)
+    refl
     c.in-Ok.ensures.builds
 
 -- ---- the seat passed on an excuse
@@ -212,6 +213,7 @@ returns-in-Err-clause-leaves g c =
     passed_leaves c.self.view_is (works_of c.self-inside-2.view_is) _
     (ap (λ (x : View). x.desk) c.excuse_to_hand.ensures.seat)
     (ap (λ (x : View). x.readings) c.excuse_to_hand.ensures.seat)
+    refl
     refl
     refl
     c.in-Err.ensures.leaves

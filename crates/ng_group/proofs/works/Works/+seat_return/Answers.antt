@@ -1,4 +1,5 @@
-use Rattle.std.proofs.Common.{arith}
+use Rattle.std.proofs.Common.{ap, ◌∙◌, arith}
+use Rattle.ng_group.specs.States.{State}
 use Rattle.ng_group.proofs.RecursionLemmas.{absent_at, around_above, around_returned, came_read, describes_read, describes_searched, ends, fewer_at, fewer_read, fewer_then, has_ended, keeps_read, keeps_same, keeps_then, keeps_told, only_fewer, only_keeps, place_at, returns_back, returns_run, returns_slot}
 use Rattle.ng_group.proofs.WorkingLemmas.{came_then}
 use Rattle.ng_group.proofs.works.Works.+seat_return.Goals as goal
@@ -58,6 +59,7 @@ returns-in_default-clause-fewer g t c =
 pub returns-in_default-clause-returns : goal.returns-in_default-clause-returns
 returns-in_default-clause-returns g t c =
     returns_run (g.P.Rules.keep_gives c.args.self.now.rules) g.M.Mapper.runs c.args.self.now c.args.meta c.args.index c.args.group.now c.take_whole.result c.take_whole.new.self.seat c.if-not-take_whole.false c.take_whole.ensures.takes c.put.new.self c.self.view_is c.end_group.ensures.on.came c.end_group.ensures.hand.unborn c.in_default.ensures.unmapped
+    (c.end_group.ensures.counter ∙ ap (λ (s : State g.row.M.Denot g.row.P.Denot). s.counter) c.take_whole.ensures.only.state)
 
 pub seat_return-requires : goal.seat_return-requires
 seat_return-requires g t c κs within =
@@ -127,3 +129,7 @@ returns-clause-returns g t c =
     (came_then c.end_group.new.self.seat c.group_of-carrying.new.seat c.seat_return.new.self.seat (came_read c.group_of-carrying.new.seat c.self.view_is c.group_of-carrying.ensures.reads) c.seat_return.ensures.on.came) in
     let later = fewer_then c.end_group.new.self.seat c.group_of-carrying.new.seat c.seat_return.new.self.seat (fewer_read c.group_of-carrying.new.seat c.self.view_is c.group_of-carrying.ensures.reads) c.seat_return.ensures.fewer in
     returns_slot (g.P.Rules.keep_gives c.args.self.now.rules) g.M.Mapper.runs c.args.self.now c.args.meta c.args.index c.args.group.now c.take_whole.result c.take_whole.new.self.seat c.if-not-take_whole.false c.take_whole.ensures.takes c.put-2.new.self c.end_group.new.self.seat c.self-2.view_is came c.end_group.ensures.hand.unborn later c.in-Some.ensures.nested
+    (c.seat_return.ensures.returns.counter
+    ∙ ap (λ (s : State g.row.M.Denot g.row.P.Denot). s.counter) c.self.view_is
+    ∙ c.end_group.ensures.counter
+    ∙ ap (λ (s : State g.row.M.Denot g.row.P.Denot). s.counter) c.take_whole.ensures.only.state)

@@ -149,7 +149,7 @@ returns-in-Ok-clause-builds g t c =
     mapped_builds (asked g t (goal.at.returns-in-Ok-clause-builds g t c).In_ok-meta
     c.ask-ask.ensures.asks c.count-count.ensures.answer c.count-count.ensures.allowed) c.args.bytes
     (is_large c.is_nested_size.result c.is_nested_size.ensures c.if-not-is_nested_size.true)
-    c.build_mapped.new.self c.in-Ok.ensures.on c.in-Ok.ensures.built c.in-Ok.ensures.run
+    c.build_mapped.new.self c.in-Ok.ensures.on c.in-Ok.ensures.built c.in-Ok.ensures.run c.in-Ok.ensures.counted
 
 pub returns-in-Err-clause-working : goal.returns-in-Err-clause-working
 returns-in-Err-clause-working g t c =
@@ -235,7 +235,7 @@ returns-in-Ok-seat_slot-clause-builds g t c =
     (is_small c.is_nested_size.result c.is_nested_size.ensures c.if-not-is_nested_size.false)
     c.slot_for_group-carried.result.class c.slot_for_group-carried.result.bytes c.slot_for_group-carried.ensures.bytes c.slot_for_group-carried.ensures.least
     c.seat_slot.new.self c.build_nested.new.self c.in-Ok-seat_slot.ensures.builds
-    c.build_nested.ensures.on c.build_nested.ensures.built c.build_nested.ensures.runs
+    c.build_nested.ensures.on c.build_nested.ensures.built c.build_nested.ensures.runs c.build_nested.ensures.counter
 
 pub returns-in-Err-seat_slot-clause-working : goal.returns-in-Err-seat_slot-clause-working
 returns-in-Err-seat_slot-clause-working g t c =

@@ -84,7 +84,7 @@ returns-clause-served g c =
 pub returns-clause-built : goal.returns-clause-built
 returns-clause-built g c =
     built_alone (comes g c) _ c.args.self.now _ (pages_for c.args.bytes) c.self.view_is refl refl
-    (pages_asked c.args.bytes c.div_ceil-pages.result c.div_ceil-pages.ensures)
+    (pages_asked c.args.bytes c.div_ceil-pages.result c.div_ceil-pages.ensures) refl
 
 -- ---- the run was refused
 pub returns-in_err-base-clause-asked : goal.returns-in_err-base-clause-asked
@@ -103,4 +103,4 @@ returns-in_err-base-clause-most g c =
 pub returns-in_err-base-clause-left : goal.returns-in_err-base-clause-left
 returns-in_err-base-clause-left g c =
     let may = may_build_lone g.N.Name.start g.M.Mapper.span g.M.Mapper.runs g.M.Mapper.refused c.args.meta c.self.view_is c.requires.working c.requires.meta in
-    on_err c.from_residual.result (lone_left _ c.args.self.now _ c.self.view_is (view_refused may.working c.in_err-base.ensures.err) refl refl refl)
+    on_err c.from_residual.result (lone_left _ c.args.self.now _ c.self.view_is (view_refused may.working c.in_err-base.ensures.err) refl refl refl refl)

@@ -1,4 +1,4 @@
-use Rattle.std.proofs.Common.{◌≡◌, ◌+◌, ◌-◌, ◌≤◌, ◌∷◌, [], sym, ap, subst, ◌∙◌, inl, inr, refl, arith}
+use Rattle.std.proofs.Common.{◌≡◌, ◌+◌, ◌-◌, ◌%◌, ◌^◌, ◌≤◌, ◌∷◌, [], sym, ap, subst, ◌∙◌, inl, inr, refl, arith}
 use Rattle.ng_ledger.specs.Standing.{Ledger}
 use Rattle.ng_shelf.specs.declared.shape.RunShape.{RunShape}
 use Rattle.ng_view.specs.declared.view.Group.{Group}
@@ -20,7 +20,7 @@ pub returns-in_err-base-clause-left : goal.returns-in_err-base-clause-left
 returns-in_err-base-clause-left g c =
     let may = may_build g.N.Name.start g.M.Mapper.span g.M.Mapper.runs g.M.Mapper.refused c.args.ask.now.class c.args.meta c.self.view_is c.requires.working c.requires.meta c.requires.bare in
     on_err c.from_residual.result (subst (λ (s : State g.row.M.Denot g.row.P.Denot). LeavesAll s (record { seat = c.map_run.new.seat; rings = c.self.inside.rings; stock = c.self.inside.stock; parents = c.self.inside.parents; usage = c.self.inside.usage; bounces = c.step.new.self; counter = c.self.inside.counter; mapper = c.map_run.new.mapper; rules = c.self.inside.rules })) c.self.view_is
-    (record { seat = view_refused may.working c.in_err-base.ensures.err; rings = refl; parents = refl; usage = refl }))
+    (record { seat = view_refused may.working c.in_err-base.ensures.err; rings = refl; parents = refl; usage = refl; counter = refl }))
 
 pub publish_run-requires-clause-meta : goal.publish_run-requires-clause-meta
 publish_run-requires-clause-meta g c =
@@ -120,3 +120,8 @@ returns-clause-served g c =
     let idle : c.self.inside.seat.held ≡ [] = ap (λ (s : State g.row.M.Denot g.row.P.Denot). s.seat.held) c.self.view_is ∙ c.requires.idle in
     subst (λ (s : State g.row.M.Denot g.row.P.Denot). HasServed c.args.ask.now.class c.args.bytes s.seat c.args.meta 0) (sym c.enter_first.ensures)
     (served_mapped (comes g c) c.args.bytes idle (roomy (group g c) c.args.ask.now.class c.args.bytes refl c.requires.class.class c.requires.bytes (inr c.run_shape-shape.ensures.holds)))
+
+pub returns-clause-counted : goal.returns-clause-counted
+returns-clause-counted g c =
+    ap (λ (s : State g.row.M.Denot g.row.P.Denot). s.counter) c.enter_first.ensures
+    ∙ ap (λ (s : State g.row.M.Denot g.row.P.Denot). (s.counter + 1) % 2 ^ 64) c.self.view_is

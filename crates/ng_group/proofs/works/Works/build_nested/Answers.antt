@@ -151,3 +151,8 @@ returns-clause-excuses g c = ap (λ (s : State g.row.M.Denot g.row.P.Denot). s.s
 
 pub returns-clause-runs : goal.returns-clause-runs
 returns-clause-runs g c = ap (λ (s : State g.row.M.Denot g.row.P.Denot). s.seat.desk.layout.runs) c.enter_first.ensures ∙ runs_nested (comes g c) ∙ ap (λ (s : State g.row.M.Denot g.row.P.Denot). s.seat.desk.layout.runs) c.self.view_is
+
+pub returns-clause-counter : goal.returns-clause-counter
+returns-clause-counter g c =
+    ap (λ (s : State g.row.M.Denot g.row.P.Denot). s.counter) c.enter_first.ensures
+    ∙ ap (λ (s : State g.row.M.Denot g.row.P.Denot). s.counter) c.self.view_is

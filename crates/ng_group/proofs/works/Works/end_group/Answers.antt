@@ -1,5 +1,6 @@
-use Rattle.std.proofs.Common.{subst, ◌≡◌, ◌%◌, arith}
+use Rattle.std.proofs.Common.{ap, subst, ◌∙◌, ◌≡◌, ◌%◌, arith}
 use Rattle.ng_serve.specs.Groups.{Describes}
+use Rattle.ng_group.specs.States.{State}
 use Rattle.ng_group.proofs.EndGroupLemmas.{gone, has_parent, run_fewer, run_held, run_idle, run_in_hand, run_inside, run_live, run_state, run_unmapped, run_whole, slot_above, slot_fewer, slot_head, slot_in_hand, slot_on, slot_returned, slot_state, still_of}
 use Rattle.ng_group.proofs.works.Works.end_group.Goals as goal
 
@@ -106,3 +107,15 @@ pub returns-clause-above : goal.returns-clause-above
 returns-clause-above g c =
     let e = gone g.N.Name.start g.M.Mapper.span g.M.Mapper.runs g.M.Mapper.refused c.args.meta c.args.group.now c.self.view_is c.leave_any_ring.ensures.only c.leave_any_ring.ensures.working c.leave_any_ring.ensures.whole c.leave_any_ring.ensures.left c.retire_group.ensures.ends c.requires.group in
     slot_above e (omega (arith, c.if-group-gt0.false)) c.of-parent.result.0 c.of-parent.result.1 c.of-parent.ensures c.clear_head.new.seat c.clear_head.ensures.view
+
+pub returns-then-group-gt0-clause-counter : goal.returns-then-group-gt0-clause-counter
+returns-then-group-gt0-clause-counter g c =
+    ap (λ (s : State g.row.M.Denot g.row.P.Denot). s.counter) c.self.view_is
+    ∙ ap (λ (s : State g.row.M.Denot g.row.P.Denot). s.counter) c.retire_group.ensures.ends.state
+    ∙ ap (λ (s : State g.row.M.Denot g.row.P.Denot). s.counter) c.leave_any_ring.ensures.only.state
+
+pub returns-clause-counter : goal.returns-clause-counter
+returns-clause-counter g c =
+    ap (λ (s : State g.row.M.Denot g.row.P.Denot). s.counter) c.self.view_is
+    ∙ ap (λ (s : State g.row.M.Denot g.row.P.Denot). s.counter) c.retire_group.ensures.ends.state
+    ∙ ap (λ (s : State g.row.M.Denot g.row.P.Denot). s.counter) c.leave_any_ring.ensures.only.state

@@ -54,6 +54,7 @@ returns-in-Err-clause-leaves g c =
     c.in-Err.ensures.on
     (ap (λ (s : State g.row.M.Denot g.row.P.Denot). s.rings) c.self-2.view_is)
     (ap (λ (s : State g.row.M.Denot g.row.P.Denot). s.usage) c.self-2.view_is)
+    (ap (λ (s : State g.row.M.Denot g.row.P.Denot). s.counter) c.self-2.view_is)
 
 pub returns-in-Err-clause-most : goal.returns-in-Err-clause-most
 returns-in-Err-clause-most g c =
@@ -71,7 +72,7 @@ returns-in_err-meta-clause-cause g c =
 pub returns-in_err-meta-clause-leaves : goal.returns-in_err-meta-clause-leaves
 returns-in_err-meta-clause-leaves g c =
     on_err c.from_residual.result
-    (area_leaves _ c.args.self.now c.self.view_is _ _ _ c.find_meta.new.seat c.in_err-meta.ensures.err _ refl refl refl)
+    (area_leaves _ c.args.self.now c.self.view_is _ _ _ c.find_meta.new.seat c.in_err-meta.ensures.err _ refl refl refl refl)
 
 pub returns-in_err-meta-clause-most : goal.returns-in_err-meta-clause-most
 returns-in_err-meta-clause-most g c =
