@@ -72,7 +72,7 @@ taken-fresh number [] = refl
 taken-fresh number (room ∷ rooms) = omega (arith, taken-fresh (number + 1) rooms, sum_by-cons (λ (hand : Caller). hand.view.taken) (fresh_caller number room) (fresh_callers (number + 1) rooms))
 
 framed-fresh : (number room : ℕ) → AreFramed (fresh_caller number room).view
-framed-fresh number room m i h is = absurd (cc)
+framed-fresh number room h there = absurd there
 
 pub AreInHand-start : (plan : Plan) (replies : List (List Reply)) (blocks : List (List (Option BlockToken))) (parcels : List (Option ParcelToken)) (hands : List Caller)
     → ((log : ℕ) → get_or replies log [] ≡ []) → ((log : ℕ) → get_or blocks log [] ≡ []) → All (λ (parcel : Option ParcelToken). parcel ≡ None) parcels

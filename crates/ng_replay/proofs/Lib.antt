@@ -10,6 +10,5 @@ pub mod BookLemmas
 pub mod HandLemmas
 pub mod StepLemmas
 pub mod StartLemmas
-pub mod ApartLemmas
 pub mod MoveLemmas
 pub mod ClosingLemmas

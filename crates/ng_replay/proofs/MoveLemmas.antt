@@ -3,6 +3,9 @@ use Rattle.std.proofs.lemmas.Grind.{common_steps}
 use Rattle.std.proofs.Common.{append_assoc, cond, eqb, false, ◌≡◌, ◌≢◌, ℕ, List, [], ◌∷◌, ◌++◌, Option, Some, None, IfSome}
 use Rattle.std.proofs.Common.{arith, ap, sym, ◌∙◌, subst, ⊎_elim, inl, inr}
 use Rattle.ng_frame.specs.Framed.{AreFramed}
+use Rattle.ng_frame.specs.Keeps.{KeepsOthers, KeepsRest, KeepsSlots}
+use Rattle.ng_frame.proofs.Keeps.{rest_itself}
+use Rattle.ng_frame.proofs.Tokens.{framed_kept, framed_stays}
 use Rattle.ng_group.specs.Hands.{IsApart}
 use Rattle.ng_heap.specs.Keeps.{IsFresh, KeepsFrames}
 use Rattle.ng_space.specs.Blocks.{BlockToken, HasFramed}
@@ -21,6 +24,16 @@ pub IsApartFrom-fresh : (before : Caller) (made : Option BlockToken) (other : Bl
 IsApartFrom-fresh before None other fresh had = tt
 IsApartFrom-fresh before (Some block) other fresh had = fresh.blocks other had.has
 
+-- a framed block stays so where its slot does
+pub HasFramed-kept : (before after : Caller) → KeepsFrames before after → KeepsSlots before.view after.view
+    → (block : BlockToken) → HasFramed before block → HasFramed after block
+HasFramed-kept before after frames slots block = framed_stays before after frames.number block (slots block.slot.meta block.slot.index)
+
+pub HasFramed-beside : (before after : Caller) (slot : Token) → KeepsFrames before after → KeepsOthers slot before.view after.view
+    → (other : BlockToken) → IsApart other.slot slot → HasFramed before other → HasFramed after other
+HasFramed-beside before after slot frames others other apart = framed_kept before after slot frames.number others other apart
+
+-- one step after the other, and none
 pub KeepsFrames-then : (one two three : Caller) → KeepsFrames one two → KeepsFrames two three → KeepsFrames one three
 KeepsFrames-then one two three first second = record {
   number = second.number ∙ first.number;
@@ -32,6 +45,9 @@ KeepsFrames-same before after same = record {
   number = ap (λ (hand : Caller). hand.number) same;
   each = λ framed. subst (λ (hand : Caller). AreFramed hand.view) (sym same) framed;
 }
+
+pub KeepsRest-same : (before after : Caller) → after ≡ before → KeepsRest before.view after.view
+KeepsRest-same before after same = subst (λ (hand : Caller). KeepsRest before.view hand.view) (sym same) (rest_itself before.view)
 
 -- the entries of a move from one address to another
 pub entries-moved : (before between now : List Entry) (size at old made source : ℕ) → at ≡ made → old ≡ source → source ≢ made

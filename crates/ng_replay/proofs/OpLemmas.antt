@@ -1,9 +1,10 @@
 -- An op of a log by its hand: a block in, the call, and a block off.
-use Rattle.std.proofs.Common.{◌≡◌, ℕ, zero, suc, ◌+◌, ◌-◌, ◌≤◌, List, [], ◌∷◌, ◌++◌, Option, Some, None, length, get_or, take, drop, arith, refl, ap, sym, subst, ◌∙◌}
+use Rattle.std.proofs.Common.{◌≡◌, ℕ, zero, suc, ◌-◌, ◌≤◌, List, [], ◌∷◌, ◌++◌, Option, Some, None, length, get_or, take, drop, arith, refl, ap, sym, subst, ◌∙◌}
 use Rattle.std.specs.Prelude.{IfSome}
 use Rattle.std.proofs.Math.ListN.{set}
 use Rattle.std.proofs.lemmas.List.{append-nil, map-append, map-set, take_all}
-use Rattle.ng_heap.specs.Keeps.{KeepsFrames, KeepsOthers}
+use Rattle.ng_frame.specs.Keeps.{KeepsOthers}
+use Rattle.ng_heap.specs.Keeps.{KeepsFrames}
 use Rattle.ng_space.specs.Blocks.{BlockToken, HasFramed}
 use Rattle.ng_space.specs.Callers.{Caller}
 use Rattle.ng_space.specs.Parcels.{ParcelToken}
@@ -13,14 +14,8 @@ use Rattle.ng_terms.specs.declared.reply.Reply.{Reply}
 use Rattle.ng_terms.specs.Calls.{handed_as, origin_of, standing}
 use Rattle.ng_replay.specs.Serial.{AreApartFrom, AreHeld, IsVacant, at_of_parcel, handed_after, handed_in, handed_with, handed_without, places_of, row_after, row_without, staying}
 use Rattle.ng_replay.specs.Serving.{IsApartFrom, at_of}
+use Rattle.ng_replay.proofs.MoveLemmas.{HasFramed-beside}
 use Rattle.ng_replay.proofs.RowLemmas.{AreHeld-kept, AreHeld-push, at_of_parcel-none, get_or-handed_in, handed_in-without, places_of-without, set-none}
-
-pub KeepsFrames-trans : (first second third fourth : Caller) → KeepsFrames first second → KeepsFrames second third → KeepsFrames third fourth
-    → KeepsFrames first fourth
-KeepsFrames-trans first second third fourth one two three = record {
-  number = three.number ∙ two.number ∙ one.number;
-  each = λ framed. three.each (two.each (one.each framed));
-}
 
 drop-past : {X : Type 0} → (n : ℕ) (xs : List X) → length xs ≤ n → drop n xs ≡ []
 drop-past zero [] past = refl
@@ -55,10 +50,12 @@ handed_in-sent given number block token parcels put parcel is block_is put_is sa
     ∙ sym (ap (λ (b : Option BlockToken). set (handed_in parcels) (number - 1) (at_of b)) block_is)
     ∙ sym (ap (λ (g : Option ℕ). handed_with g (at_of block) (handed_in parcels)) is)
 
-pub AreHeld-sent : (before after : Caller) (block : Option BlockToken) (token : BlockToken) → block ≡ Some token → KeepsOthers token.slot before after
-    → (row : List (Option BlockToken)) → AreApartFrom block row → AreHeld before row → AreHeld after row
-AreHeld-sent before after block token is kept row apart held =
-    AreHeld-kept before after row (λ op other at framed. kept.frames other (subst (λ (b : Option BlockToken). IsApartFrom b other) is (apart op other at)) framed) held
+pub AreHeld-sent : (before after : Caller) (block : Option BlockToken) (token : BlockToken) → block ≡ Some token → KeepsFrames before after
+    → KeepsOthers token.slot before.view after.view → (row : List (Option BlockToken)) → AreApartFrom block row → AreHeld before row → AreHeld after row
+AreHeld-sent before after block token is frames kept row apart held =
+    AreHeld-kept before after row
+    (λ op other at framed. HasFramed-beside before after token.slot frames kept other
+    (subst (λ (b : Option BlockToken). IsApartFrom b other) is (apart op other at)) framed) held
 
 -- ---- the op
 pub IsVacant-left : (given : Option ℕ) (origin : Origin) (parcels left : List (Option ParcelToken)) → left ≡ handed_without origin parcels

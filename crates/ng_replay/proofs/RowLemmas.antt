@@ -1,5 +1,5 @@
 -- The blocks of one row: one out, one in, and where they stand.
-use Rattle.std.proofs.Common.{◌≡◌, ◌≢◌, ◌⊎◌, ℕ, zero, suc, ◌+◌, ◌-◌, ◌<◌, ◌≤◌, List, [], ◌∷◌, ◌++◌, Option, Some, None, length, get_or, arith, refl, ap, sym, subst, inl, inr, ⊎_elim, ◌∙◌}
+use Rattle.std.proofs.Common.{◌≡◌, ◌≢◌, ◌⊎◌, ℕ, zero, suc, ◌-◌, ◌<◌, ◌≤◌, List, [], ◌∷◌, ◌++◌, Option, Some, None, length, get_or, arith, refl, ap, sym, subst, inl, inr, ⊎_elim, ◌∙◌}
 use Rattle.std.specs.Prelude.{All, IfSome}
 use Rattle.std.proofs.Math.ListN.{set}
 use Rattle.std.proofs.lemmas.Bool.{cases_eq, cases_lt}
@@ -10,14 +10,11 @@ use Rattle.ng_heap.specs.Keeps.{IsFresh}
 use Rattle.ng_space.specs.Blocks.{BlockToken, HasFramed}
 use Rattle.ng_space.specs.Callers.{Caller}
 use Rattle.ng_space.specs.Parcels.{ParcelToken}
-use Rattle.ng_space.specs.Tokens.{Token}
 use Rattle.ng_terms.specs.declared.plan.Origin.{Origin}
 use Rattle.ng_terms.specs.declared.plan.Origin.TheVariants.{Own, Claim, Skip}
 use Rattle.ng_replay.specs.Serial.{AreApartFrom, AreHeld, at_of_parcel, handed_in, handed_without, one_of, places_of, row_without, underway}
 use Rattle.ng_replay.specs.Serving.{IsApartFrom, at_of}
-
-IsApart-sym : (a b : Token) → IsApart a b → IsApart b a
-IsApart-sym a b apart = ⊎_elim (λ meta. inl (λ same. meta (sym same))) (λ index. inr (λ same. index (sym same))) apart
+use Rattle.ng_replay.proofs.MoveLemmas.{IsApart-flip}
 
 -- an element that is there doesn't depend on what stands for a missing one
 pub get_or-there : {X : Type 0} → (xs : List X) (i : ℕ) (d e : X) → i < length xs → get_or xs i d ≡ get_or xs i e
@@ -124,7 +121,7 @@ AreHeld-push hand row block new away held = record { framed = framed; apart = ap
         (λ last_2. beside op one another old.1 last_2.1)
         (cases other another also))
         (λ last. ⊎_elim
-        (λ old_2. IsApart-sym another.slot one.slot (beside other another one old_2.1 last.1))
+        (λ old_2. IsApart-flip another.slot one.slot (beside other another one old_2.1 last.1))
         (λ last_2. absurd (differ (last.0 ∙ sym last_2.0)))
         (cases other another also))
         (cases op one is)

@@ -33,18 +33,32 @@ pub record IsTurnOf (plan : Plan) (turn : ℕ) (rows : List (Vec Reply)) (log : 
   pub row_is : row ≡ get_or rows log row
   pub op_is : op ≡ op_of_log (get_or plan.logs log []) (length row.items)
 
--- the turn as the code reads it
+-- the turn as the code reads it: the log is one of the plan's
+turn-log : {plan : Plan} {turn : ℕ} (order : List ℕ) → IsSound plan → turn < length plan.order → order ≡ plan.order
+    → get_or order turn 0 < length plan.logs
+turn-log {plan = plan} {turn = turn} order sound within order_is =
+    subst (λ (o : List ℕ). get_or o turn 0 < length plan.logs) (sym order_is)
+    (All-get_or (λ (log : ℕ). log < length plan.logs) plan.order turn 0 within sound.order)
+
+-- its ops
+pub turn-ops : {plan : Plan} {turn : ℕ} (order : List ℕ) (logs : List (List Op)) (ops : List Op) → IsSound plan → turn < length plan.order
+    → order ≡ plan.order → logs ≡ plan.logs → ops ≡ get_or logs (get_or order turn 0) ops → ops ≡ get_or plan.logs (get_or order turn 0) []
+turn-ops {plan = plan} {turn = turn} order logs ops sound within order_is logs_is ops_is =
+    ops_is ∙ ap (λ (l : List (List Op)). get_or l (get_or order turn 0) ops) logs_is
+    ∙ get_or-there plan.logs (get_or order turn 0) ops [] (turn-log order sound within order_is)
+
+-- and its next op
 pub turn-of : {plan : Plan} {turn : ℕ} {rows : List (Vec Reply)} {row : Vec Reply} (order : List ℕ) (logs : List (List Op)) (ops read : List Op) (place : ℕ)
-    → turn < length plan.order → order ≡ plan.order → logs ≡ plan.logs
-    → get_or order turn 0 < length logs → ops ≡ get_or logs (get_or order turn 0) [] → row ≡ get_or rows (get_or order turn 0) row → read ≡ ops
-    → place ≡ length row.items
+    → IsSound plan → turn < length plan.order → order ≡ plan.order → logs ≡ plan.logs
+    → ops ≡ get_or logs (get_or order turn 0) ops → row ≡ get_or rows (get_or order turn 0) row → read ≡ ops → place ≡ length row.items
     → IsTurnOf plan turn rows (get_or order turn 0) row (get_or read place (Make 0 0 None))
-turn-of {plan = plan} {turn = turn} {row = row} order logs ops read place within order_is logs_is log_in ops_is row_is read_is place_is = record {
+turn-of {plan = plan} {turn = turn} {row = row} order logs ops read place sound within order_is logs_is ops_is row_is read_is place_is = record {
   turn_in = within;
   log_is = ap (λ (o : List ℕ). get_or o turn 0) (sym order_is);
-  log_in = rw logs_is at log_in;
+  log_in = turn-log order sound within order_is;
   row_is = row_is;
-  op_is = ap (λ (p : ℕ). op_of_log read p) place_is ∙ ap (λ (o : List Op). op_of_log o (length row.items)) (read_is ∙ ops_is ∙ ap (λ (l : List (List Op)). get_or l (get_or order turn 0) []) logs_is);
+  op_is = ap (λ (p : ℕ). op_of_log read p) place_is
+      ∙ ap (λ (o : List Op). op_of_log o (length row.items)) (read_is ∙ turn-ops order logs ops sound within order_is logs_is ops_is);
 }
 
 module _ {plan : Plan} {turn log : ℕ} {rows : List (Vec Reply)} {row : Vec Reply} {op : Op} (blocks : List (Vec (Option BlockToken)))

@@ -1,7 +1,6 @@
 //! Replay: the ops of a plan are done on a heap, and each gets its reply.
 #![tactic(auto)]
 
-mod apart;
 mod make;
 mod op;
 mod room;
@@ -12,3 +11,6 @@ pub use ng_terms::{Made, Mode, Reply};
 pub use op::do_op;
 pub use room::Room;
 pub use turns::serial;
+
+#[cfg(test)]
+mod tests;

@@ -1,6 +1,7 @@
 ghost use Rattle.std.specs.Prelude.{◌≡◌, ◌+◌, ◌≤◌, ◌++◌, IfSome};
+ghost use Rattle.ng_frame.specs.Keeps.{KeepsRest, KeepsSlots};
 ghost use Rattle.ng_group.specs.Steps.{GoesOn};
-ghost use Rattle.ng_heap.specs.Keeps.{IsFresh, KeepsAll, KeepsFrames, KeepsRest};
+ghost use Rattle.ng_heap.specs.Keeps.{IsFresh, KeepsFrames};
 ghost use Rattle.ng_replay.specs.Serving.{MostFor, at_of, plain};
 ghost use Rattle.ng_space.specs.Blocks.{HasFramed};
 ghost use Rattle.ng_terms.specs.Calls.{FitsMade, calls_of_make, reply_of, standing};
@@ -27,7 +28,7 @@ pub fn make<N: Name, M: Mapper, P: Rules>(
     ensures fresh { IfSome result.1 (λ block. IsFresh hand.old block.slot) }
     ensures most { MostFor (M.refused core.old.mapper).most (M.refused core.new.mapper).most size }
 
-    ensures kept { KeepsAll hand.old hand.new }
+    ensures slots { KeepsSlots hand.old.view hand.new.view }
     ensures frames { KeepsFrames hand.old hand.new }
     ensures rest { KeepsRest hand.old.view hand.new.view }
     ensures spare { hand.new.spare + 1 ≡ hand.old.spare }

@@ -1,13 +1,13 @@
 ghost use Rattle.std.specs.Prelude.{◌≡◌, ◌+◌, ◌≤◌, ◌++◌, ◌∷◌, [], IfSome, None};
-ghost use Rattle.ng_group.specs.Steps.{GoesOn};
+ghost use Rattle.ng_frame.specs.Keeps.{KeepsOthers, KeepsRest, KeepsSlots};
 ghost use Rattle.ng_group.specs.Hands.{IsApart};
-ghost use Rattle.ng_heap.specs.Keeps.{IsFresh, KeepsAll, KeepsFrames, KeepsOthers, KeepsRest};
+ghost use Rattle.ng_group.specs.Steps.{GoesOn};
+ghost use Rattle.ng_heap.specs.Keeps.{IsFresh, KeepsFrames};
 ghost use Rattle.ng_replay.specs.Serving.{IsApartFrom, MostFor, at_of, plain};
 ghost use Rattle.ng_space.specs.Blocks.{BlockToken, HasFramed};
 ghost use Rattle.ng_terms.specs.Calls.{FitsMade, FitsMoved, FitsOp, calls_for, calls_of, reply_of, reply_of_free, size_of, standing};
 ghost use Rattle.ng_terms.specs.declared.entry.Entry.TheVariants.{Take};
 
-use crate::apart::tell_apart;
 use crate::make::make;
 use ng_group::Core;
 use ng_heap::{AllocRefusal, Heap};
@@ -98,7 +98,7 @@ fn make_anew<N: Name, M: Mapper, P: Rules>(
     ensures fresh { IfSome result.1 (λ block. IsFresh hand.old block.slot) }
     ensures most { MostFor (M.refused core.old.mapper).most (M.refused core.new.mapper).most size }
 
-    ensures kept { KeepsAll hand.old hand.new }
+    ensures slots { KeepsSlots hand.old.view hand.new.view }
     ensures frames { KeepsFrames hand.old hand.new }
     ensures rest { KeepsRest hand.old.view hand.new.view }
     ensures spare { hand.new.spare + 1 ≡ hand.old.spare }
@@ -167,7 +167,7 @@ fn free_framed<N: Name, M: Mapper, P: Rules>(
     ensures taken { hand.new.entries ≡ hand.old.entries ++ Take block.at ∷ [] }
     ensures calm { M.refused core.new.mapper ≡ M.refused core.old.mapper }
 
-    ensures others { KeepsOthers block.slot hand.old hand.new }
+    ensures others { KeepsOthers block.slot hand.old.view hand.new.view }
     ensures frames { KeepsFrames hand.old hand.new }
     ensures rest { KeepsRest hand.old.view hand.new.view }
     ensures spare { hand.new.spare + 1 ≡ hand.old.spare }
@@ -206,7 +206,6 @@ fn move_from<N: Name, M: Mapper, P: Rules>(
     let at = old.at();
     match heap.malloc_in(core, hand, size) {
         Ok(block) => {
-            tell_apart(heap.space(), hand, &old, &block);
             let reply = Reply::Moved {
                 old: at,
                 at: block.at(),

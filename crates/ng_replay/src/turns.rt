@@ -92,10 +92,7 @@ fn serve<N: Name, M: Mapper, P: Rules>(
     ensures next { core.new.seat.desk.next ≡ core.old.seat.desk.next }
 {
     let log = plan.order.as_slice()[turn] as usize;
-    let Some(ops) = plan.logs.as_slice().get(log) else {
-        // A turn of no log does nothing.
-        return;
-    };
+    let ops = &plan.logs.as_slice()[log];
     let row = &mut rows[log];
     let replies = row.as_slice();
     let op = &ops.as_slice()[replies.len()];

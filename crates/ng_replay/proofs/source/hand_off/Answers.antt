@@ -10,4 +10,4 @@ returns-clause-handed g c =
     handed_in-sent _ c.in-Some.number _ c.in-Some-block.block _ _ c.send-parcel.result (sym c.handed_number.ensures ∙ c.in-Some.is) c.in-Some-block.is c.replace.ensures.after c.send-parcel.ensures.block
 
 pub returns-clause-held : goal.returns-clause-held
-returns-clause-held g c = AreHeld-sent _ _ _ c.in-Some-block.block c.in-Some-block.is c.send-parcel.ensures.others
+returns-clause-held g c = AreHeld-sent _ _ _ c.in-Some-block.block c.in-Some-block.is c.send-parcel.ensures.frames c.send-parcel.ensures.others

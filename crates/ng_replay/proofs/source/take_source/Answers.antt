@@ -1,4 +1,5 @@
 use Rattle.std.proofs.Common.{None, sym, ◌∙◌}
+use Rattle.ng_replay.proofs.MoveLemmas.{HasFramed-kept}
 use Rattle.ng_replay.proofs.RowLemmas.{AreApartFrom-fresh, AreApartFrom-taken, AreHeld-kept, AreHeld-taken, get_or-there}
 use Rattle.ng_replay.proofs.source.take_source.Goals as goal
 
@@ -15,4 +16,6 @@ pub returns-in-Some-clause-apart : goal.returns-in-Some-clause-apart
 returns-in-Some-clause-apart g c = AreApartFrom-fresh c.args.hand.now c.args.row.now c.receive.result c.receive.ensures.fresh c.requires.held
 
 pub returns-in-Some-clause-held : goal.returns-in-Some-clause-held
-returns-in-Some-clause-held g c = AreHeld-kept c.args.hand.now c.receive.new.hand c.args.row.now (λ op block is framed. c.receive.ensures.kept.frames block framed) c.requires.held
+returns-in-Some-clause-held g c =
+    AreHeld-kept c.args.hand.now c.receive.new.hand c.args.row.now
+    (λ op block is framed. HasFramed-kept _ _ c.receive.ensures.frames c.receive.ensures.slots block framed) c.requires.held

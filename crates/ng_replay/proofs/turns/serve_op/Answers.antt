@@ -1,7 +1,8 @@
 use Rattle.std.proofs.Common.{List, [], ◌∷◌, ◌++◌, ap, ◌∙◌}
 use Rattle.ng_terms.specs.Calls.{handed_as, origin_of}
 use Rattle.ng_replay.specs.Serial.{row_without}
-use Rattle.ng_replay.proofs.OpLemmas.{AreHeld-after, IsVacant-left, KeepsFrames-trans, handed_in-after, places_of-after, written_back}
+use Rattle.ng_replay.proofs.MoveLemmas.{KeepsFrames-then}
+use Rattle.ng_replay.proofs.OpLemmas.{AreHeld-after, IsVacant-left, handed_in-after, places_of-after, written_back}
 use Rattle.ng_replay.proofs.turns.serve_op.Goals as goal
 
 pub hand_off-block-requires-clause-vacant : goal.hand_off-block-requires-clause-vacant
@@ -24,4 +25,5 @@ returns-clause-held g c =
     c.do_op-reply.ensures.others c.do_op-reply.ensures.apart c.hand_off-block.ensures.held c.hand_off-block.ensures.stays c.hand_off-block.ensures.framed (c.push_reserved.ensures.items ∙ ap (λ (l : List _). l ++ c.hand_off-block.result ∷ []) (written_back c.take_source-source.new.row c.as_mut_slice.result.now c.args.row.now.items _ c.take_source-source.auto.row c.as_mut_slice.ensures.value c.as_mut_slice.ensures.len))
 
 pub returns-clause-frames : goal.returns-clause-frames
-returns-clause-frames g c = KeepsFrames-trans c.args.hand.now c.take_source-source.new.hand c.do_op-reply.new.hand c.hand_off-block.new.hand c.take_source-source.ensures.frames c.do_op-reply.ensures.frames c.hand_off-block.ensures.frames
+returns-clause-frames g c =
+    KeepsFrames-then _ _ _ (KeepsFrames-then _ _ _ c.take_source-source.ensures.frames c.do_op-reply.ensures.frames) c.hand_off-block.ensures.frames

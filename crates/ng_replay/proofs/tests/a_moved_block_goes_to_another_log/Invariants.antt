@@ -1,0 +1,5 @@
+use Rattle.ng_replay.proofs.tests.a_moved_block_goes_to_another_log.Given as goal
+
+-- the heap that was just made
+abbrev pub ghosts-replayed : goal.ghosts-replayed
+ghosts-replayed g a = record { table = a.blank.table; start = a.blank.start }

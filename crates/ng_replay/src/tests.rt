@@ -1,0 +1,231 @@
+// Plans of one log and of two, done over musl's rules and a mapper that gives the lowest runs. The addresses are those that
+// `tests/cases` has for the same lines.
+ghost use Rattle.std.specs.Prelude.{◌≡◌, ◌≤◌, IfOk, length, sum_by};
+ghost use Rattle.ng_group.specs.Tests.{AreParts};
+ghost use Rattle.ng_plan.specs.Plans.{lines_of};
+ghost use Rattle.ng_plan.specs.Sound.{IsSound};
+ghost use Rattle.ng_policy.specs.Ask.{AskInRange, IsCount};
+ghost use Rattle.ng_replay.specs.Books.{rooms_for};
+
+use crate::{Room, serial};
+use ng_group::Tables;
+use ng_heap::Heap;
+use ng_mapper::FirstFit;
+use ng_mtrace::{Line, Log, Logs};
+use ng_plan::plan;
+use ng_policy::{Ask, Kept, Policy, Rules, Spare, musl_count, musl_keep};
+use ng_space::{Blank, Book, Name, Start};
+use ng_terms::{Entry, Items, Plan, Reply};
+use std::alloc::Global;
+use std::marker::Brand;
+use std::process::Abort;
+use std::test::Fail;
+
+const PAGES: u32 = 4096;
+
+// A log of these lines.
+fn log_of(alloc: Global, lines: &[Line]) -> Result<Log, Fail>
+    ensures { IfOk result (λ log. log.lines ≡ lines.now) }
+{
+    Ok(Log {
+        lines: Items::from_vec(lines.to_vec(alloc)?),
+    })
+}
+
+// The plan of logs.
+fn plan_of(alloc: Global, logs: Vec<Log>) -> Result<Plan, Fail>
+    requires few { length logs.items ≤ 16 }
+    requires short { sum_by length (lines_of logs.items) ≤ 1000000 }
+    ensures sound { IfOk result IsSound }
+{
+    let logs = Logs {
+        logs: Items::from_vec(logs),
+    };
+    match plan(alloc, &logs) {
+        Ok(plan) => Ok(plan),
+        Err(_) => Err("no memory")?,
+    }
+}
+
+// How many entries the book of each log may need.
+fn rooms(alloc: Global, plan: &Plan) -> Result<Vec<u64>, Fail>
+    ensures few { IfOk result (λ rooms. length rooms.items ≤ 16) }
+    ensures rooms { IfOk result (λ rooms. rooms.items ≡ rooms_for plan.now) }
+{
+    let logs = plan.logs.as_slice();
+    if logs.len() > 16 {
+        return Err("more logs than planned")?;
+    }
+    let mut rooms = Vec::with_capacity(alloc, logs.len())?;
+    for ops in logs {
+        if ops.len() > 100 {
+            return Err("more ops than lines")?;
+        }
+        rooms.push_reserved(2 * ops.len() as u64);
+    }
+    Ok(rooms)
+}
+
+// The memory of a heap with a hand for each log and of its core, and a mapper that refuses no call.
+fn parts(alloc: Global, plan: &Plan) -> Result<(Blank, Tables, FirstFit), Fail>
+    ensures parts { IfOk result (λ made. AreParts made.0 made.1 made.2) }
+    ensures rooms { IfOk result (λ made. made.0.rooms ≡ rooms_for plan.now) }
+{
+    let start = Start {
+        pages: u64::from(PAGES),
+        lower: 0x1000,
+        upper: 0x100_0000,
+        secret: 0x0123_4567_89ab_cdef,
+        refusals: 0,
+        cap: 0,
+    };
+    let rooms = rooms(alloc, plan)?;
+    let blank = Blank::new(alloc, start, rooms.as_slice())?;
+    let tables = Tables::new(alloc, PAGES)?;
+    let mapper = FirstFit::new(alloc, PAGES, Vec::new(alloc))?;
+    Ok((blank, tables, mapper))
+}
+
+// The choices of musl.
+fn count(ask: Ask) -> u32
+    requires { AskInRange ask }
+    ensures { IsCount ask.class result }
+{
+    musl_count(ask)
+}
+
+fn keep(spare: Spare) -> bool {
+    musl_keep(spare)
+}
+
+// The replies to the ops of a plan, and the books of its logs.
+fn replayed<N: Name, P: Rules + Drop, R: Abort>(
+    rt: &R,
+    alloc: Global,
+    plan: &Plan,
+    blank: Blank,
+    tables: Tables,
+    mapper: FirstFit,
+    rules: P,
+) -> (Vec<Items<Reply>>, Vec<Book>)
+    requires table { blank.table ≡ N.table }
+    requires start { blank.start ≡ N.start }
+    requires parts { AreParts blank tables mapper }
+    requires rooms { blank.rooms ≡ rooms_for plan.now }
+    requires good { P.good rules }
+    requires sound { IsSound plan.now }
+{
+    match Heap::<N>::open(alloc, blank, tables, mapper, Kept::new(rules)) {
+        Ok((heap, mut core, mut hands)) => {
+            let Ok(room) = Room::for_plan(alloc, plan) else {
+                panic!(rt; "no memory for the replies")
+            };
+            let replies = serial(&heap, &mut core, &mut hands, plan, room);
+            let (_image, books, _mapper) = heap.close(core, hands);
+            (replies, books)
+        }
+        Err(_) => panic!(rt; "no memory for the heap"),
+    }
+}
+
+#[test]
+fn a_log_moves_a_block(rt: HostRuntime) -> Result<(), Fail> {
+    let alloc = rt.alloc();
+    let lines = [
+        Line::Make {
+            name: 0x10,
+            size: 0x14,
+        },
+        Line::Make {
+            name: 0x11,
+            size: 0x14,
+        },
+        Line::Move {
+            old: 0x11,
+            name: 0x20,
+            size: 0x200,
+        },
+        Line::End { name: 0x10 },
+    ];
+    let plan = plan_of(alloc, vec![in alloc; log_of(alloc, &lines)?]?)?;
+    let (blank, tables, mapper) = parts(alloc, &plan)?;
+    let rules = Policy::new(count, keep);
+    let (replies, books) = replayed::<Brand, _, _>(&rt, alloc, &plan, blank, tables, mapper, rules);
+    let wanted = [
+        Reply::Given { at: 0x2040 },
+        Reply::Given { at: 0x2060 },
+        Reply::Moved {
+            old: 0x2060,
+            at: 0x2820,
+        },
+        Reply::Freed { at: 0x2040 },
+    ];
+    let calls = [
+        give(0x14, 0x2040),
+        give(0x14, 0x2060),
+        give(0x200, 0x2820),
+        Entry::Take { at: 0x2060 },
+        Entry::Take { at: 0x2040 },
+    ];
+    assert_eq!(rt; replies.len(), 1);
+    assert_eq!(rt; books.len(), 1);
+    assert_eq!(rt; replies[0].as_slice(), wanted.as_slice());
+    assert_eq!(rt; books[0].entries(), calls.as_slice());
+    Ok(())
+}
+
+#[test]
+fn a_moved_block_goes_to_another_log(rt: HostRuntime) -> Result<(), Fail> {
+    let alloc = rt.alloc();
+    let first = [
+        Line::Make {
+            name: 0x10,
+            size: 0x14,
+        },
+        Line::Move {
+            old: 0x10,
+            name: 0x20,
+            size: 0x14,
+        },
+    ];
+    let second = [
+        Line::End { name: 0x20 },
+        Line::Make {
+            name: 0x20,
+            size: 0x14,
+        },
+    ];
+    let logs = vec![in alloc; log_of(alloc, &first)?, log_of(alloc, &second)?]?;
+    let plan = plan_of(alloc, logs)?;
+    let (blank, tables, mapper) = parts(alloc, &plan)?;
+    let rules = Policy::new(count, keep);
+    let (replies, books) = replayed::<Brand, _, _>(&rt, alloc, &plan, blank, tables, mapper, rules);
+    let moved = Reply::Moved {
+        old: 0x2040,
+        at: 0x2060,
+    };
+    let sender = [
+        give(0x14, 0x2040),
+        give(0x14, 0x2060),
+        Entry::Take { at: 0x2040 },
+    ];
+    let taker = [Entry::Take { at: 0x2060 }, give(0x14, 0x2040)];
+    assert_eq!(rt; replies.len(), 2);
+    assert_eq!(rt; books.len(), 2);
+    assert_eq!(rt;
+        replies[0].as_slice(),
+        [Reply::Given { at: 0x2040 }, moved].as_slice()
+    );
+    assert_eq!(rt;
+        replies[1].as_slice(),
+        [Reply::Freed { at: 0x2060 }, Reply::Given { at: 0x2040 }].as_slice()
+    );
+    assert_eq!(rt; books[0].entries(), sender.as_slice());
+    assert_eq!(rt; books[1].entries(), taker.as_slice());
+    Ok(())
+}
+
+// The entry of a block of n bytes that was given there.
+fn give(n: u64, at: u64) -> Entry {
+    Entry::Give { n, align: 16, at }
+}
