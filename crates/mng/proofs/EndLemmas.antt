@@ -1,10 +1,9 @@
 -- How a run ends: what the close of its heap and the replies tell together.
-use Rattle.std.proofs.Common.{◌≡◌, ℕ, Bool, List, [], ◌∷◌, ◌++◌, refl, sym, ap, ◌∙◌, subst, inl, inr}
+use Rattle.std.proofs.Common.{◌≡◌, ℕ, Bool, false, List, [], ◌∷◌, ◌++◌, refl, sym, ap, ◌∙◌, subst, inl, inr}
 use Rattle.std.specs.Prelude.{All, sum_by}
 use Rattle.std.proofs.lemmas.List.Elements.{All-head, All-tail}
 use Rattle.ng_frame.specs.Framed.{AreFramed}
 use Rattle.ng_group.specs.Opening.{IsFreshMapper, IsHandedBack}
-use Rattle.ng_heap.specs.Keeps.{HasOwnBook}
 use Rattle.ng_mapper.specs.Mapping.{Span}
 use Rattle.ng_mapper.specs.Runs as mapper
 use Rattle.ng_mapper.specs.declared.refusals.Refusals.{Refusals}
@@ -12,7 +11,7 @@ use Rattle.ng_replay.specs.Books.{AreAllFramed, AreBooks}
 use Rattle.ng_replay.specs.Serving.{counts_of, plain}
 use Rattle.ng_replay.proofs.ClosingLemmas.{account_closed, books_of_hands}
 use Rattle.ng_space.specs.Callers.{Caller}
-use Rattle.ng_space.specs.Closings.{AreFreeMetasBlank, AreRunsUsed, books_of, views_of}
+use Rattle.ng_space.specs.Closings.{AreFreeMetasBlank, AreRunsUsed, HasOwnBook, books_of, views_of}
 use Rattle.ng_space.proofs.Gathering.{views}
 use Rattle.ng_terms.specs.Accounts.{Account, IsMostBound}
 use Rattle.ng_terms.specs.Calls.{Fits}
@@ -39,6 +38,12 @@ entries-books : (hands : List Caller) → entries_of (books_of hands) ≡ books_
 entries-books [] = refl
 entries-books (hand ∷ hands) = ap (λ (books : List (List Entry)). hand.entries ∷ books) (entries-books hands)
 
+-- what holds of all is so of each
+each_view : (P : View → Type 0) (vs : List View) → All P vs → (u : View) → Among u vs → P u
+each_view P [] all u there = absurd there
+each_view P (v ∷ vs) all u (inl same) = subst P (sym same) (All-head P v vs all)
+each_view P (v ∷ vs) all u (inr there) = each_view P vs (All-tail P v vs all) u there
+
 -- a view of one of the hands is framed
 framed_view : (hands : List Caller) (u : View) → AreAllFramed hands → Among u (views hands) → AreFramed u
 framed_view [] u framed there = elim there [ ]
@@ -59,10 +64,11 @@ module _ (start : Start) (span : Span) (lock : View) (hands : List Caller) (live
   abbrev image_closed : (before : List mapper.Run) (counted : Refusals) → IsFreshMapper start span before counted → start.secret ≡ program_secret
       → Slots words (views_of lock hands) → Words start words (views_of lock hands)
       → Knowledge words (views_of lock hands) → Classes (views_of lock hands)
-      → AreRunsUsed words lock.desk.layout → AreFreeMetasBlank words lock.desk.layout → All HasOwnBook hands → AreAllFramed hands
+      → AreRunsUsed words lock.desk.layout → AreFreeMetasBlank words lock.desk.layout → All HasOwnBook hands
+      → All (λ (view : View). view.parcel ≡ false) (views_of lock hands) → AreAllFramed hands
       → IsHandedBack lock live refused → (legal : History start (views_of lock hands))
       → IsImageOf program_secret span words live legal.calls
-  image_closed before counted fresh secret slots lawful known classes used blank own framed left legal = record {
+  image_closed before counted fresh secret slots lawful known classes used blank own whole framed left legal = record {
     start = start;
     secret_is = secret;
     pages_are = sym fresh.size;
@@ -79,6 +85,7 @@ module _ (start : Start) (span : Span) (lock : View) (hands : List Caller) (live
     blank = blank;
     mapped = left.mapped;
     still = left.still;
+    whole = each_view (λ (view : View). view.parcel ≡ false) (views_of lock hands) whole;
     booked = λ u there. booked_view hands u own there;
     framed = λ u there. framed_view hands u framed there;
     blocks_are = legal.live;
@@ -100,12 +107,13 @@ module _ {X : Type 0} (span : X → Span) (runs : X → List mapper.Run) (refuse
       → Knowledge heap.image.words (views_of lock hands) → Classes (views_of lock hands)
       → AreRunsUsed heap.image.words lock.desk.layout → AreFreeMetasBlank heap.image.words lock.desk.layout
       → Excuses start (views_of lock hands) → History start (views_of lock hands) → All HasOwnBook hands
+      → All (λ (view : View). view.parcel ≡ false) (views_of lock hands)
       → IsHandedBack lock (runs ended) (refused ended) → heap.books ≡ books_of hands → heap.replies ≡ replies
       → (closed_before closed : List Closed) → closed_before ≡ [] → closed ≡ closed_before ++ heap ∷ []
       → (text_before text : List ℕ) (shown : List (List Reply)) (pages : ℕ) → text_before ≡ [] → text ≡ text_before ++ report plan plain calls_shown shown pages
       → shown ≡ replies → pages ≡ sum_by (λ run. run.1) (runs back)
       → Runs plan calls_shown (span old) (counts_of (refused old)) (counts_of (refused back)) (runs back) closed text
-  runs_closed replies secret fresh same image_pages fits books framed most slots lawful known classes used blank excuses legal own left books_are replies_are
+  runs_closed replies secret fresh same image_pages fits books framed most slots lawful known classes used blank excuses legal own whole left books_are replies_are
       closed_before closed none closed_is text_before text shown pages no_text text_is shown_is pages_are =
       let left_back : IsHandedBack lock (runs back) (refused back) = subst (λ (m : X). IsHandedBack lock (runs m) (refused m)) (sym same) left in
       let most_back : IsMostBound plan plain (refused old).most (refused back).most =
@@ -114,7 +122,7 @@ module _ {X : Type 0} (span : X → Span) (runs : X → List mapper.Run) (refuse
         account_closed plan replies start lock hands (counts_of (refused old)) (counts_of (refused back)) fits books lawful.lawful.range legal excuses
             left_back.leads left_back.bookless own (sym fresh.count) left_back.counted most_back,
         image_closed start (span old) lock hands (runs back) (refused back) heap.image.words (runs old) (refused old) fresh secret
-            slots lawful known classes used blank own framed left_back legal,
+            slots lawful known classes used blank own whole framed left_back legal,
       ) in
       let entries_are : entries_of heap.books ≡ books_of_hands hands = ap entries_of books_are ∙ entries-books hands in
       let told_heap : IsTold (span old).size heap.replies (entries_of heap.books) =

@@ -1,5 +1,5 @@
 -- A closed heap: its last words, the books of its hands, and the replies to the ops.
-use Rattle.std.specs.Prelude.{◌≡◌, ℕ, true, List, [], ◌∷◌, map}
+use Rattle.std.specs.Prelude.{◌≡◌, ℕ, true, false, List, [], ◌∷◌, map}
 use Rattle.ng_frame.specs.Framed.{AreFramed}
 use Rattle.ng_history.specs.Book as book
 use Rattle.ng_ledger.specs.Runs.{AreMapped}
@@ -29,8 +29,8 @@ entries_of books = map (λ (b : book.Shown). b.entries) books
 
 -- the words are a lawful image of the mapper's space, between its bounds and over its live runs, with what the lock's seat,
 -- which leads, and the hands knew at the end: each noted run is the mapper's, and an area or that of a live group, and metas
--- without a group are blank. A hand is a view with one book, so none is a parcel. The blocks in the hands are framed, in
--- groups whose class may serve them, and they are those that live after the history
+-- without a group are blank. Each hand has one book, and no view is that of a parcel on its way. The blocks in the hands are
+-- framed, in groups whose class may serve them, and they are those that live after the history
 pub record IsImageOf (secret : ℕ) (span : Span) (words : List ℕ) (live : List mapper.Run) (history : List Event) : Type 0 where
   pub start : Start
   pub secret_is : start.secret ≡ secret
@@ -48,6 +48,7 @@ pub record IsImageOf (secret : ℕ) (span : Span) (words : List ℕ) (live : Lis
   pub blank : AreFreeMetasBlank words lock.desk.layout
   pub mapped : AreMapped lock.desk.layout.runs live
   pub still : lock.held ≡ []
+  pub whole : (view : View) → Among view (lock ∷ hands) → view.parcel ≡ false
   pub booked : (hand : View) → Among hand hands → (b : Book) × (hand.books ≡ b ∷ [])
   pub framed : (hand : View) → Among hand hands → AreFramed hand
   pub blocks_are : (b : Extent) → total_by (λ (c : Extent). count_of (same_extent c b)) (live_after history) ≡ total_by (blocks b) (lock ∷ hands)

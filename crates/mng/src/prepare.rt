@@ -42,6 +42,7 @@ pub fn prepare<I: Source>(
     ensures sound { IfOk result (λ run. IsSound run.plan) }
 
     ensures usage { (result ≡ Err Status.Usage) ↔ ¬ InLanguage (texts_of words.now) }
+    ensures unread { result ≡ Err Status.Usage → input.new ≡ input.old }
     ensures read { result ≡ Err Status.ReadFault → Rose (I.faults input.old) (I.faults input.new) }
     ensures bad_line { (line : ℕ) → result ≡ Err (Status.BadLine line)
         → MeetsFault (fault.BadLine line) (I.left input.old) (I.left input.new) }

@@ -1,7 +1,7 @@
 ghost use Rattle.std.specs.Prelude.{◌≡◌, ◌⊎◌, ◌≤◌, [], length, vec_capacity};
 ghost use Rattle.mng.specs.Closed.{program_secret};
 ghost use Rattle.mng.specs.Statuses.{IsLate};
-ghost use Rattle.mng.specs.Tool.{Ends};
+ghost use Rattle.mng.specs.Tool.{Ends, Runs};
 ghost use Rattle.ng_group.specs.Opening.{AreEmpty, IsFreshMapper};
 ghost use Rattle.ng_plan.specs.Sound.{IsSound};
 ghost use Rattle.ng_replay.specs.Books.{rooms_for};
@@ -69,7 +69,13 @@ pub fn run<N: Name, O: Sink, M: Mapper, P: Rules + Drop>(
         Err((mapper, Host)) => return (Status::Host, mapper, closed),
     };
     match Room::for_plan(alloc, &prepared.plan) {
-        Ok(room) => served(heap, core, hands, prepared, room, closed, out),
+        Ok(room) => {
+            let (mapper, closed, text) = reported(heap, core, hands, prepared, room, closed);
+            match write_all(out, text.as_slice()) {
+                Ok(()) => (Status::Done, mapper, closed),
+                Err(Failed) => (Status::WriteFault, mapper, closed),
+            }
+        }
         Err(Host) => {
             let (_image, _books, mapper) = heap.close(core, hands);
             (Status::Host, mapper, closed)
@@ -77,16 +83,15 @@ pub fn run<N: Name, O: Sink, M: Mapper, P: Rules + Drop>(
     }
 }
 
-/// From the first op on. It takes no memory.
-fn served<N: Name, O: Sink, M: Mapper, P: Rules + Drop>(
+/// Does the ops, closes the heap and makes the report of the replies. It takes no memory.
+fn reported<N: Name, M: Mapper, P: Rules + Drop>(
     heap: Heap<N>,
     mut core: Core<N, M, P>,
     mut hands: Vec<Hand<N>>,
     prepared: Prepared,
     room: Room<N>,
     mut closed: Vec<Closed>,
-    out: &mut O,
-) -> (Status, M, Vec<Closed>)
+) -> (M, Vec<Closed>, Vec<u8>)
     requires sound { IsSound prepared.plan }
     requires secret { N.start.secret ≡ program_secret }
     requires mapper { IsFreshMapper N.start (M.span core.mapper) (M.runs core.mapper) (M.refused core.mapper) }
@@ -95,11 +100,8 @@ fn served<N: Name, O: Sink, M: Mapper, P: Rules + Drop>(
     requires room { HasRoom room prepared.plan }
     requires none { closed.items ≡ [] }
     requires one { 1 ≤ vec_capacity closed }
-    ensures late { IsLate result.0 }
-    ensures write_fault { result.0 ≡ Status.WriteFault → Rose (O.faults out.old) (O.faults out.new) }
-    ensures ends { Ends prepared.plan prepared.calls_shown (M.span core.mapper)
-        (counts_of (M.refused core.mapper)) (counts_of (M.refused result.1)) (M.runs result.1) result.2.items
-        (O.written out.old) (O.written out.new) result.0 }
+    ensures runs { Runs prepared.plan prepared.calls_shown (M.span core.mapper)
+        (counts_of (M.refused core.mapper)) (counts_of (M.refused result.0)) (M.runs result.0) result.1.items result.2.items }
 {
     let Prepared {
         plan,
@@ -121,8 +123,5 @@ fn served<N: Name, O: Sink, M: Mapper, P: Rules + Drop>(
         books: Items::from_vec(books),
         replies: Items::from_vec(replies),
     });
-    match write_all(out, text.as_slice()) {
-        Ok(()) => (Status::Done, mapper, closed),
-        Err(Failed) => (Status::WriteFault, mapper, closed),
-    }
+    (mapper, closed, text)
 }

@@ -56,6 +56,7 @@ pub fn tool<I: Source, O: Sink, M: Mapper, C: Fn(Ask) -> u32 + Drop, K: Fn(Spare
 
     // The causes of the other statuses.
     ensures usage { (result.0 ≡ Status.Usage) ↔ ¬ InLanguage (texts_of words.now) }
+    ensures unread { result.0 ≡ Status.Usage → input.new ≡ input.old }
     ensures read_fault { result.0 ≡ Status.ReadFault → Rose (I.faults input.old) (I.faults input.new) }
     ensures bad_line { (line : ℕ) → result.0 ≡ Status.BadLine line
         → MeetsFault (fault.BadLine line) (I.left input.old) (I.left input.new) }
