@@ -8,9 +8,9 @@ use Rattle.ng_view.specs.LockSteps.{area_made, built, cells_off, run_left}
 use Rattle.ng_view.specs.Steps.{read}
 use Rattle.ng_view.specs.declared.view.Start.{Start}
 use Rattle.ng_view.specs.declared.view.View.{View}
-use Rattle.ng_lock_moves.specs.Notes.{IsClearedRun, NotesArea, NotesRun, plain_run}
-use Rattle.ng_lock_moves.specs.Stores.{Stores}
-use Rattle.ng_lock_moves.proofs.Knowing.{off_else, sees-built}
+use Rattle.ng_view.specs.Notes.{IsClearedRun, NotesArea, NotesRun, plain_run}
+use Rattle.ng_view.specs.Stores.{Stores}
+use Rattle.ng_rule.proofs.lock.Knowing.{off_else, sees-built}
 use Rattle.ng_build.specs.Areas.{AreMetasZero, with_area, without_run}
 use Rattle.ng_build.specs.Cells.{AreZero, BuildsAll, IsIdleRun, KeepsOutside, OnlyCells, knowing}
 use Rattle.ng_build.proofs.Cells.{builds_run, idle_run_only, only_both, only_built, sees_else}

@@ -8,10 +8,10 @@ use Rattle.ng_view.specs.Lists.{Among}
 use Rattle.ng_view.specs.Steps.{read}
 use Rattle.ng_view.specs.declared.view.Layout.{Layout}
 use Rattle.ng_view.specs.declared.view.View.{View}
-use Rattle.ng_lock_moves.specs.Loads.{Loads}
-use Rattle.ng_lock_moves.specs.Notes.{plain_run}
-use Rattle.ng_lock_moves.specs.Stores.{Stores}
-use Rattle.ng_lock_moves.proofs.Knowing.{sees-built, sees-built_else}
+use Rattle.ng_view.specs.Loads.{Loads}
+use Rattle.ng_view.specs.Notes.{plain_run}
+use Rattle.ng_view.specs.Stores.{Stores}
+use Rattle.ng_rule.proofs.lock.Knowing.{sees-built, sees-built_else}
 use Rattle.ng_build.specs.Cells.{AreZero, BuildsAll, IsIdleMeta, IsIdleRun, KeepsOutside, OnlyCells, knowing}
 
 -- ---- views that differ in known cells and readings

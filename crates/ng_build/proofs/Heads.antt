@@ -7,12 +7,12 @@ use Rattle.ng_class.proofs.Classes.{units_of_rises}
 use Rattle.ng_class.proofs.Slots.{stride_of_least, stride_of_several}
 use Rattle.ng_header.specs.Header.{IsInRange, cell_with}
 use Rattle.ng_header.specs.declared.header.Ib.{Ib}
-use Rattle.ng_geometry.proofs.Strides.{times_whole}
-use Rattle.ng_geometry.proofs.Lists.{find_among, is_at-true}
+use Rattle.ng_rule.proofs.geometry.Strides.{times_whole}
+use Rattle.ng_rule.proofs.geometry.Lists.{find_among, is_at-true}
 use Rattle.ng_view.specs.Places.{IsClass, size_of, stride}
 use Rattle.ng_view.specs.declared.view.Group.{Group}
 use Rattle.ng_view.specs.declared.view.View.{View}
-use Rattle.ng_lock_moves.specs.Stores.{FitsMotion, Stores}
+use Rattle.ng_view.specs.Stores.{FitsMotion, Stores}
 use Rattle.ng_build.specs.Drafts.{draft_group}
 use Rattle.ng_build.specs.Nestings.{HasCarrier, HasHead, OnlySlot, SeesIn, recalling}
 use Rattle.ng_build.specs.declared.draft.Draft.{Draft}

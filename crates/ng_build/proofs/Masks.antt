@@ -10,7 +10,7 @@ use Rattle.ng_view.specs.Lists.{count_of, select}
 use Rattle.ng_view.specs.LockSteps.{moving}
 use Rattle.ng_view.specs.Slots.{IsPlain}
 use Rattle.ng_view.specs.declared.view.Group.{Group}
-use Rattle.ng_lock_moves.specs.Groups.{AreMasks}
+use Rattle.ng_view.specs.Groups.{AreMasks}
 use Rattle.ng_mask.proofs.Motion.{select_one}
 use Rattle.ng_build.specs.Written.{avail_of, freed_of}
 

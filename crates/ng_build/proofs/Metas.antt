@@ -8,9 +8,9 @@ use Rattle.ng_view.specs.Places.{stride}
 use Rattle.ng_view.specs.Slots.{IsPlain}
 use Rattle.ng_view.specs.declared.view.View.{View}
 use Rattle.ng_meta.specs.Place.{IsMetaPlace}
-use Rattle.ng_lock_moves.specs.Groups.{BuiltMeta}
-use Rattle.ng_lock_moves.specs.Stores.{Stores}
-use Rattle.ng_lock_moves.proofs.Knowing.{sees-built}
+use Rattle.ng_view.specs.Groups.{BuiltMeta}
+use Rattle.ng_view.specs.Stores.{Stores}
+use Rattle.ng_rule.proofs.lock.Knowing.{sees-built}
 use Rattle.ng_build.specs.Cells.{IsIdleMeta, OnlyCells, knowing}
 use Rattle.ng_build.specs.Drafts.{IsBlankMeta, draft_group}
 use Rattle.ng_build.specs.declared.draft.Draft.{Draft}

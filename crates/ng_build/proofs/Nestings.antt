@@ -1,7 +1,7 @@
 -- A group is built in a slot, and published.
 use Rattle.std.proofs.Common.{◌≡◌, ℕ, ◌+◌, ◌*◌, ◌<◌, ◌≤◌, eqb, cond, List, [], ◌∷◌, refl, sym, ap, ◌∙◌, subst, ⊎_elim, inl, inr, arith}
 use Rattle.std.specs.Prelude.{Some}
-use Rattle.ng_geometry.proofs.Lists.{find_among, is_at-true}
+use Rattle.ng_rule.proofs.geometry.Lists.{find_among, is_at-true}
 use Rattle.ng_view.specs.Conditions.{Sees}
 use Rattle.ng_view.specs.Layouts.{IsKind, IsNested}
 use Rattle.ng_view.specs.LockSteps.{cells_off, nested_in}
@@ -12,8 +12,8 @@ use Rattle.ng_view.specs.declared.view.Group.{Group}
 use Rattle.ng_view.specs.declared.view.Held.{Held}
 use Rattle.ng_view.specs.declared.view.View.{View}
 use Rattle.ng_meta.specs.Place.{IsMetaPlace}
-use Rattle.ng_lock_moves.specs.Groups.{BuildsNested, BuiltMeta, BuiltNested, IsLowHeader, Publishes, slot_published}
-use Rattle.ng_lock_moves.proofs.Knowing.{off_else}
+use Rattle.ng_view.specs.Groups.{BuildsNested, BuiltMeta, BuiltNested, IsLowHeader, Publishes, slot_published}
+use Rattle.ng_rule.proofs.lock.Knowing.{off_else}
 use Rattle.ng_build.specs.Cells.{IsIdleMeta, knowing}
 use Rattle.ng_build.specs.Drafts.{IsBlankMeta, IsCounted, draft_group}
 use Rattle.ng_build.specs.Nestings.{HasCarrier, OnlySlot, PublishesSlot, SeesIn, recalling, with_nested}

@@ -1,7 +1,7 @@
 -- A group is built on a run, and published.
 use Rattle.std.proofs.Common.{◌≡◌, ◌⊎◌, ℕ, ◌+◌, ◌-◌, ◌*◌, ◌%◌, ◌<◌, ◌≤◌, eqb, cond, List, [], ◌∷◌, refl, sym, ap, ◌∙◌, subst, ⊎_elim, inl, inr, mul-le-mul_left, arith}
 use Rattle.ng_class.proofs.Slots.{stride_of_single}
-use Rattle.ng_geometry.proofs.Strides.{header_cell}
+use Rattle.ng_rule.proofs.geometry.Strides.{header_cell}
 use Rattle.ng_view.specs.Conditions.{Built, Sees}
 use Rattle.ng_view.specs.Layouts.{IsKind, OnRun}
 use Rattle.ng_view.specs.LockSteps.{built, cells_off, published, run_published}
@@ -10,10 +10,10 @@ use Rattle.ng_view.specs.Slots.{IsPlain}
 use Rattle.ng_view.specs.declared.view.Group.{Group}
 use Rattle.ng_view.specs.declared.view.View.{View}
 use Rattle.ng_meta.specs.Place.{IsMetaPlace}
-use Rattle.ng_lock_moves.specs.Groups.{AreMasks, BuildsRun, BuiltMeta, Publishes}
-use Rattle.ng_lock_moves.specs.Notes.{IsClearedRun, plain_run}
-use Rattle.ng_lock_moves.specs.Stores.{Stores}
-use Rattle.ng_lock_moves.proofs.Knowing.{off_else, sees-built}
+use Rattle.ng_view.specs.Groups.{AreMasks, BuildsRun, BuiltMeta, Publishes}
+use Rattle.ng_view.specs.Notes.{IsClearedRun, plain_run}
+use Rattle.ng_view.specs.Stores.{Stores}
+use Rattle.ng_rule.proofs.lock.Knowing.{off_else, sees-built}
 use Rattle.ng_build.specs.Cells.{IsIdleMeta, IsIdleRun, OnlyCells, knowing}
 use Rattle.ng_build.specs.Drafts.{FitsRun, IsBlankMeta, IsCounted, draft_group}
 use Rattle.ng_build.specs.Runs.{IsMetaOutside, PublishesRun, with_group}

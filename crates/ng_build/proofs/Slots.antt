@@ -1,15 +1,15 @@
 -- Stores in a slot of the seat: the slot's cells change, and nothing else.
 use Rattle.std.proofs.Common.{◌≡◌, ◌≢◌, ℕ, ◌+◌, ◌%◌, ◌<◌, ◌≤◌, cond, Bool, true, false, List, [], ◌∷◌, refl, sym, ap, ◌∙◌, subst, inl, inr, arith}
 use Rattle.std.specs.Prelude.{Some}
-use Rattle.ng_geometry.proofs.Lists.{find_among, find_edit, is_at-true}
+use Rattle.ng_rule.proofs.geometry.Lists.{find_among, find_edit, is_at-true}
 use Rattle.ng_view.specs.Blocks.{Knows}
 use Rattle.ng_view.specs.Lists.{edit, find, is_at, without}
 use Rattle.ng_view.specs.Places.{slot_start, stride}
 use Rattle.ng_view.specs.Steps.{forget, stored, wrote}
 use Rattle.ng_view.specs.declared.view.Held.{Held}
 use Rattle.ng_view.specs.declared.view.View.{View}
-use Rattle.ng_lock_moves.specs.Stores.{FitsMotion, IsInMotion, Stores}
-use Rattle.ng_lock_moves.proofs.Knowing.{still_known}
+use Rattle.ng_view.specs.Stores.{FitsMotion, IsInMotion, Stores}
+use Rattle.ng_rule.proofs.lock.Knowing.{still_known}
 use Rattle.ng_build.specs.Nestings.{OnlySlot, SeesIn, recalling}
 
 -- ---- edits of one slot

@@ -4,7 +4,7 @@ use Rattle.ng_view.specs.Conditions.{Builds, IsEmpty, IsUnborn, Sees}
 use Rattle.ng_view.specs.Layouts.{InArea}
 use Rattle.ng_view.specs.Lists.{Among}
 use Rattle.ng_view.specs.declared.view.View.{View}
-use Rattle.ng_lock_moves.specs.Notes.{plain_run}
+use Rattle.ng_view.specs.Notes.{plain_run}
 
 -- the view with other known cells and readings
 abbrev pub knowing : View → List (ℕ × ℕ) → List (ℕ × ℕ) → View

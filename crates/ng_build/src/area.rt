@@ -1,13 +1,11 @@
 ghost use Rattle.std.specs.Prelude.{◌≡◌, ◌⊎◌, ◌+◌, ◌*◌, ◌%◌, ◌<◌, ◌≤◌};
 ghost use Rattle.ng_view.specs.Layouts.{IsAreaAt};
-ghost use Rattle.ng_lock_moves.specs.Notes.{IsClearedRun};
+ghost use Rattle.ng_view.specs.Notes.{IsClearedRun};
 ghost use Rattle.ng_build.specs.Areas.{AreMetasZero, with_area};
 ghost use Rattle.ng_build.specs.Cells.{KeepsOutside, OnlyCells};
 
+use ng_meta::METAS;
 use ng_space::{LockSeat, Name, Space};
-
-/// How many metas an area has.
-const METAS: u32 = 101;
 
 // Of an area: where the high half of its check, its link and the number of its metas stand.
 const CHECK_HIGH: u64 = 4;

@@ -5,15 +5,8 @@ ghost use Rattle.ng_build.specs.Drafts.{IsCounted};
 ghost use Rattle.ng_build.specs.Written.{avail_of, flags_of, freed_of, with_meta};
 
 use ng_class::all_bits;
-use ng_meta::{Fields, cells_of};
+use ng_meta::{FLAGS, FREED, Fields, MEM, cells_of};
 use ng_space::{LockSeat, Name, Space};
-
-// Of a meta: where its group's address, its freed mask and its flags stand.
-const MEM: u64 = 16;
-
-const FREED: u64 = 28;
-
-const FLAGS: u64 = 32;
 
 /// A group that is to be built. Its slot 0 is the one that it is built for.
 #[derive(Clone, Copy, Debug, PartialEq, Eq)]

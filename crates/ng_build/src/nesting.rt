@@ -5,9 +5,9 @@ ghost use Rattle.ng_build.specs.Nestings.{HasCarrier, HasHead, OnlySlot, Publish
 ghost use Rattle.ng_build.specs.Written.{AreHeadersLow, HasHeaders, KeepsIn};
 
 use crate::draft::{Draft, write_meta};
-use crate::run::ACTIVE;
 use ng_class::{IB, UNIT, stride};
 use ng_header::{Ib, cell_of};
+use ng_meta::ACTIVE;
 use ng_space::{LockSeat, Name, Space};
 
 /// The reserved field of the header of a slot that carries a group.

@@ -1,14 +1,12 @@
 ghost use Rattle.std.specs.Prelude.{◌≡◌, ◌+◌, ◌*◌, ◌%◌, ◌≤◌};
 ghost use Rattle.ng_meta.specs.Place.{IsMetaPlace};
-ghost use Rattle.ng_lock_moves.specs.Notes.{IsClearedRun};
+ghost use Rattle.ng_view.specs.Notes.{IsClearedRun};
 ghost use Rattle.ng_build.specs.Drafts.{FitsRun, IsBlankMeta, IsCounted, draft_group};
 ghost use Rattle.ng_build.specs.Runs.{IsMetaOutside, PublishesRun};
 
 use crate::draft::{Draft, write_meta};
+use ng_meta::ACTIVE;
 use ng_space::{LockSeat, Name, Space};
-
-/// Where a group has the highest index of its slots in use.
-pub(crate) const ACTIVE: u64 = 8;
 
 /// Builds a group on a run whose cells are known to be 0, and makes it live. Its slot 0 is in the
 /// seat, in motion.

@@ -2,7 +2,7 @@
 use Rattle.std.proofs.Common.{◌≡◌, ◌≢◌, ℕ, zero, suc, ◌-◌, ◌*◌, ◌/◌, ◌%◌, ◌^◌, ◌<◌, refl, ap, ◌∙◌, subst, ⊎_elim, inl, arith}
 use Rattle.std.proofs.lemmas.Bool.{cases_eq}
 use Rattle.ng_header.specs.Bytes.{byte_of}
-use Rattle.ng_moves.proofs.Load.{still_knows}
+use Rattle.ng_rule.proofs.hand.Load.{still_knows}
 use Rattle.ng_view.specs.Blocks.{Knows}
 use Rattle.ng_view.specs.Frame.{KnowsByte}
 use Rattle.ng_view.specs.Steps.{learnt, wrote}

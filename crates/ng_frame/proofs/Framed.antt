@@ -1,7 +1,7 @@
 -- Each block of a hand stays framed.
 use Rattle.std.proofs.Common.{◌≡◌, ℕ, ◌-◌, ◌+◌, ◌%◌, refl, sym, ap, ◌∙◌, subst, ⊎_elim}
 use Rattle.std.specs.Prelude.{Option, Some, None}
-use Rattle.ng_geometry.proofs.Lists.{among_edit, among_map, find_edit}
+use Rattle.ng_rule.proofs.geometry.Lists.{among_edit, among_map, find_edit}
 use Rattle.ng_terms.specs.Heap.{extent}
 use Rattle.ng_terms.specs.declared.entry.Extent.{Extent}
 use Rattle.ng_terms.specs.declared.entry.Entry.TheVariants.{Take}

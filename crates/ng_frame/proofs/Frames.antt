@@ -2,10 +2,10 @@
 use Rattle.std.proofs.Common.{◌≡◌, ◌≢◌, ℕ, ◌+◌, ◌-◌, ◌*◌, ◌/◌, ◌%◌, ◌<◌, ◌≤◌, List, [], ◌∷◌, ◌++◌, refl, sym, ap, ◌∙◌, subst, inl, inr, arith}
 use Rattle.std.specs.Prelude.{Some}
 use Rattle.std.proofs.lemmas.List.{append_assoc}
-use Rattle.ng_geometry.proofs.Lists.{find_among, find_edit}
+use Rattle.ng_rule.proofs.geometry.Lists.{find_among, find_edit}
 use Rattle.ng_header.specs.Bytes.{byte_of}
 use Rattle.ng_header.specs.Cycle.{cycle_of}
-use Rattle.ng_moves.proofs.Load.{still_knows}
+use Rattle.ng_rule.proofs.hand.Load.{still_knows}
 use Rattle.ng_terms.specs.Heap.{extent}
 use Rattle.ng_view.specs.Blocks.{Knows}
 use Rattle.ng_view.specs.Frame.{IsGiven, IsShift, IsTrailer, KnowsByte, field_of, slack_of}

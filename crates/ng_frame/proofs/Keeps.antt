@@ -5,8 +5,8 @@ use Rattle.std.specs.Prelude.{◌%◌, Option, Some, None}
 use Rattle.ng_terms.specs.declared.entry.Extent.{Extent}
 use Rattle.ng_terms.specs.declared.entry.Entry.{Entry}
 use Rattle.ng_terms.specs.declared.entry.Entry.TheVariants.{Take}
-use Rattle.ng_geometry.proofs.Lists.{find_edit, is_at-true}
-use Rattle.ng_moves.proofs.Load.{still_knows}
+use Rattle.ng_rule.proofs.geometry.Lists.{find_edit, is_at-true}
+use Rattle.ng_rule.proofs.hand.Load.{still_knows}
 use Rattle.ng_view.specs.Lists.{Among, edit, find, is_at}
 use Rattle.ng_view.specs.Places.{owns_at}
 use Rattle.ng_view.specs.Steps.{booked_block, learnt, loaded, stored, with_block, wrote}

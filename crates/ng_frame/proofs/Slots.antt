@@ -9,8 +9,8 @@ use Rattle.ng_class.specs.Class.{units_of}
 use Rattle.ng_class.specs.Slot.{IsGroupClass, IsLoneGroup, stride_of}
 use Rattle.ng_class.proofs.Classes.{units_of_le}
 use Rattle.ng_class.proofs.Slots.{room_of-le, stride_of_either, stride_of_least, stride_of_several, stride_of_single}
-use Rattle.ng_geometry.proofs.Lists.{find_among}
-use Rattle.ng_geometry.proofs.Strides.{stride_whole, times_whole}
+use Rattle.ng_rule.proofs.geometry.Lists.{find_among}
+use Rattle.ng_rule.proofs.geometry.Strides.{stride_whole, times_whole}
 use Rattle.ng_view.specs.Layouts.{IsLoneKind, IsSmallKind}
 use Rattle.ng_view.specs.Places.{room, stride, units}
 use Rattle.ng_view.specs.Tells.{Tells}

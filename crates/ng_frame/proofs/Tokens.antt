@@ -2,7 +2,7 @@
 use Rattle.std.proofs.Common.{◌≡◌, ◌≢◌, ℕ, ◌*◌, ◌/◌, refl, sym, ap, ◌∙◌, subst, ⊎_elim, inl, inr}
 use Rattle.std.proofs.lemmas.Bool.{cases_eq}
 use Rattle.std.specs.Prelude.{Option, Some, None}
-use Rattle.ng_moves.proofs.Load.{carries_more}
+use Rattle.ng_rule.proofs.hand.Load.{carries_more}
 use Rattle.ng_terms.specs.Heap.{extent}
 use Rattle.ng_terms.specs.declared.entry.Extent.{Extent}
 use Rattle.ng_view.specs.Lists.{find}

@@ -2,11 +2,11 @@
 use Rattle.std.proofs.Common.{◌≡◌, ℕ, ◌<◌, cond, eqb, Bool, true, List, [], ◌∷◌, refl, sym, ap, ◌∙◌, subst}
 use Rattle.std.specs.Prelude.{Some, None}
 use Rattle.std.proofs.lemmas.Bool.{eq-eqb}
-use Rattle.ng_geometry.proofs.Lists.{is_at-here}
+use Rattle.ng_rule.proofs.geometry.Lists.{is_at-here}
 use Rattle.std.specs.List.{slice_get}
 use Rattle.ng_lists.specs.Rings.{ring_of}
 use Rattle.ng_lists.proofs.MemberLemmas.{Contains-first}
-use Rattle.ng_lock_moves.specs.Notes.{excuse_of_call}
+use Rattle.ng_view.specs.Notes.{excuse_of_call}
 use Rattle.ng_mapper.specs.Mapping.{Span}
 use Rattle.ng_mapper.specs.Runs as mapper
 use Rattle.ng_mapper.specs.declared.refusals.Refusals.{Refusals}

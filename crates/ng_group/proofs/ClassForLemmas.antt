@@ -6,7 +6,7 @@ use Rattle.std.specs.List.{slice_get}
 use Rattle.std.proofs.lemmas.List.{append_cancel_left}
 use Rattle.ng_lists.specs.Rings.{ring_of}
 use Rattle.ng_lists.proofs.MemberLemmas.{Contains-first}
-use Rattle.ng_lock_moves.specs.Loads.{Loads, freed_read}
+use Rattle.ng_view.specs.Loads.{Loads, freed_read}
 use Rattle.ng_mapper.specs.Mapping.{Span}
 use Rattle.ng_mapper.specs.Runs as mapper
 use Rattle.ng_mapper.specs.declared.refusals.Refusals.{Refusals}

@@ -8,8 +8,8 @@ use Rattle.ng_mapper.specs.Runs as mapper
 use Rattle.ng_mapper.specs.declared.refusals.Refusals.{Refusals}
 use Rattle.ng_lists.specs.Rings.{IsListed}
 use Rattle.ng_shelf.specs.Parents.{parent_of}
-use Rattle.ng_lock_moves.specs.Groups.{IsCarriedIn}
-use Rattle.ng_lock_moves.specs.Notes.{plain_run}
+use Rattle.ng_view.specs.Groups.{IsCarriedIn}
+use Rattle.ng_view.specs.Notes.{plain_run}
 use Rattle.ng_view.specs.Conditions.{Sees}
 use Rattle.ng_view.specs.Lists.{Among, edit}
 use Rattle.ng_view.specs.LockSteps.{groups_but, nest_of, retired_nested}

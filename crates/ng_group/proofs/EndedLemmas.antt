@@ -1,6 +1,6 @@
 -- A group is no more, whose slots were all in the seat: what stands then, and what is in hand.
 use Rattle.std.proofs.Common.{◌≡◌, ◌≢◌, ℕ, ◌+◌, ◌*◌, ◌<◌, List, Contains, refl, sym, ◌∙◌, subst, ⊎_elim, inl, inr, arith}
-use Rattle.ng_geometry.proofs.Lists.{run_was}
+use Rattle.ng_rule.proofs.geometry.Lists.{run_was}
 use Rattle.ng_meta.specs.Place.{IsMetaPlace}
 use Rattle.ng_mapper.specs.Mapping.{AreLaid, IsSpan, Span}
 use Rattle.ng_mapper.specs.Runs as mapper
@@ -8,8 +8,8 @@ use Rattle.ng_mapper.specs.declared.refusals.Refusals.{Refusals}
 use Rattle.ng_mapper.proofs.LaidLemmas.{lies-contained}
 use Rattle.ng_lists.specs.Rings.{IsListed}
 use Rattle.ng_shelf.specs.Stock.{free_of}
-use Rattle.ng_lock_moves.specs.Groups.{HasAllSlots}
-use Rattle.ng_lock_moves.specs.Notes.{plain_run}
+use Rattle.ng_view.specs.Groups.{HasAllSlots}
+use Rattle.ng_view.specs.Notes.{plain_run}
 use Rattle.ng_view.specs.Layouts.{InArea}
 use Rattle.ng_view.specs.Lists.{Among}
 use Rattle.ng_view.specs.LockSteps.{groups_but, retired_nested, runs_but}

@@ -8,9 +8,9 @@ use Rattle.ng_mapper.specs.Mapping.{Span}
 use Rattle.ng_mapper.specs.Runs as mapper
 use Rattle.ng_mapper.specs.declared.refusals.Refusals.{Refusals}
 use Rattle.ng_lists.specs.Rings.{IsListed, RingTable, ring_of}
-use Rattle.ng_lock_moves.specs.Fetches.{HasGroup}
-use Rattle.ng_lock_moves.specs.Masks.{TellsFreed}
-use Rattle.ng_lock_moves.specs.Notes.{NotesRing}
+use Rattle.ng_view.specs.Fetches.{HasGroup}
+use Rattle.ng_view.specs.Masks.{TellsFreed}
+use Rattle.ng_view.specs.Notes.{NotesRing}
 use Rattle.ng_view.specs.Lists.{Among, find}
 use Rattle.ng_view.specs.LockSteps.{has_number, others, outside, read_bits, ring_noted, ring_read}
 use Rattle.ng_view.specs.Steps.{read}

@@ -7,7 +7,7 @@ use Rattle.std.proofs.lemmas.Nat.{and_le_r, mod_below, pow_pos}
 use Rattle.std.proofs.lemmas.Nat.Bits.{bit_at-lt, bit_at-zero, bit_at_above, bit_at_and, bit_at_ones, bit_at_ones_above, same_from_bits}
 use Rattle.ng_class.specs.Mask.{FillsGroup, all_bits_of}
 use Rattle.ng_class.proofs.Fills.{fills_test}
-use Rattle.ng_geometry.proofs.Lists.{is_at-here}
+use Rattle.ng_rule.proofs.geometry.Lists.{is_at-here}
 use Rattle.ng_view.specs.Lists.{find, is_at, select}
 use Rattle.ng_view.specs.LockSteps.{outside}
 use Rattle.ng_view.specs.Steps.{in_motion}

@@ -11,7 +11,7 @@ use Rattle.ng_view.specs.Lists.{Among}
 use Rattle.ng_view.specs.LockSteps.{others}
 use Rattle.ng_view.specs.declared.view.Start.{Start}
 use Rattle.ng_view.specs.declared.view.View.{View}
-use Rattle.ng_lock_moves.specs.Notes.{NotesRing}
+use Rattle.ng_view.specs.Notes.{NotesRing}
 use Rattle.ng_ledger.specs.Rings.{AreRinged, IsBare, IsIn, IsTable, left}
 use Rattle.ng_ledger.proofs.BareLemmas.{bare_left}
 use Rattle.ng_ledger.proofs.RingLemmas.{leave}

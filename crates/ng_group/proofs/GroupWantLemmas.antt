@@ -2,7 +2,7 @@
 use Rattle.std.proofs.Common.{◌≡◌, ◌≢◌, ◌⊎◌, ℕ, ◌+◌, ◌%◌, ◌^◌, ◌<◌, Bool, true, not, List, ◌∷◌, refl, sym, ap, ◌∙◌, subst, ⊎_elim, inl, inr, arith}
 use Rattle.std.proofs.lemmas.Bool.{cases_eq}
 use Rattle.ng_lists.specs.Rings.{RingTable, ring_of}
-use Rattle.ng_lock_moves.specs.Notes.{plain_run}
+use Rattle.ng_view.specs.Notes.{plain_run}
 use Rattle.ng_policy.specs.declared.ask.Ask.{Ask}
 use Rattle.ng_serve.specs.Reads.{IsBareIn}
 use Rattle.ng_shelf.specs.Shape.{IsNestedSize, shape_of}

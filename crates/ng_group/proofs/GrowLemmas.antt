@@ -16,8 +16,8 @@ use Rattle.ng_view.specs.Steps.{in_motion}
 use Rattle.ng_view.specs.declared.view.Held.{Held}
 use Rattle.ng_view.specs.declared.view.Start.{Start}
 use Rattle.ng_view.specs.declared.view.View.{View}
-use Rattle.ng_lock_moves.specs.Fetches.{HasGroup}
-use Rattle.ng_lock_moves.specs.Masks.{TellsAvail}
+use Rattle.ng_view.specs.Fetches.{HasGroup}
+use Rattle.ng_view.specs.Masks.{TellsAvail}
 use Rattle.ng_mask.specs.Fetches.{FindsNone, LeavesOthers, TakesLast, TakesLowest}
 use Rattle.ng_mask.proofs.Bits.{bit_at_low}
 use Rattle.ng_serve.specs.Reads.{Notes}

@@ -2,7 +2,7 @@
 use Rattle.std.proofs.Common.{◌≡◌, ◌≢◌, ◌⊎◌, ℕ, ◌≤◌, cond, Bool, true, false, List, [], ◌∷◌, refl, sym, ap, ◌∙◌, subst, ⊎_elim, inl, inr, arith}
 use Rattle.std.specs.Prelude.{Some}
 use Rattle.std.proofs.lemmas.Bool.{cases_eq}
-use Rattle.ng_geometry.proofs.Lists.{find_among, is_at-here, is_at-true, total_by-among}
+use Rattle.ng_rule.proofs.geometry.Lists.{find_among, is_at-here, is_at-true, total_by-among}
 use Rattle.ng_space.specs.Blocks.{BlockToken, HasBlock}
 use Rattle.ng_space.specs.Callers.{Caller}
 use Rattle.ng_space.specs.Placed.{AreOnce}

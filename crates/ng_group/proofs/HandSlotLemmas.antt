@@ -2,8 +2,8 @@
 use Rattle.std.proofs.Common.{◌≡◌, ◌⊎◌, ℕ, zero, suc, ◌+◌, ◌*◌, ◌<◌, ◌≤◌, cond, Bool, true, false, List, [], ◌∷◌, map, refl, sym, ap, ◌∙◌, subst, inl, inr}
 use Rattle.std.specs.Prelude.{Option, Some}
 use Rattle.std.proofs.lemmas.Option.{same_Some}
-use Rattle.ng_geometry.proofs.Lists.{is_at-here}
-use Rattle.ng_lock_moves.specs.Notes.{excuse_of_call}
+use Rattle.ng_rule.proofs.geometry.Lists.{is_at-here}
+use Rattle.ng_view.specs.Notes.{excuse_of_call}
 use Rattle.ng_class.specs.Class.{units_of}
 use Rattle.ng_mask.specs.Pops.{HasPopCause, LastLoads, Loses, LosesOnce, Wins}
 use Rattle.ng_mask.specs.declared.outcome.Pop.{Pop}

@@ -23,9 +23,9 @@ use Rattle.ng_ledger.proofs.RunLemmas.{area_apart}
 use Rattle.ng_ledger.proofs.ServedLemmas.{served_first, served_new}
 use Rattle.ng_ledger.proofs.UsageLemmas.{published_lone}
 use Rattle.ng_lists.specs.Rings.{RingTable}
-use Rattle.ng_lock_moves.specs.Fetches.{HasGroup}
-use Rattle.ng_lock_moves.specs.Notes.{NotesRing, NotesRun, plain_run}
-use Rattle.ng_lock_moves.proofs.Knowing.{sees-run_else}
+use Rattle.ng_view.specs.Fetches.{HasGroup}
+use Rattle.ng_view.specs.Notes.{NotesRing, NotesRun, plain_run}
+use Rattle.ng_rule.proofs.lock.Knowing.{sees-run_else}
 use Rattle.ng_mapper.specs.Mapping.{AreLaid, IsSpan, Span}
 use Rattle.ng_mapper.specs.Runs as mapper
 use Rattle.ng_mapper.specs.declared.refusals.Refusals.{Refusals}

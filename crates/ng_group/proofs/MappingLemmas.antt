@@ -26,8 +26,8 @@ use Rattle.ng_ledger.proofs.RunLemmas.{area_apart}
 use Rattle.ng_ledger.proofs.ServedLemmas.{served_first, served_new}
 use Rattle.ng_ledger.proofs.UsageLemmas.{published}
 use Rattle.ng_lists.specs.Rings.{IsListed}
-use Rattle.ng_lock_moves.specs.Notes.{IsClearedRun, NotesRun, excuse_of_call, plain_run}
-use Rattle.ng_lock_moves.proofs.Knowing.{sees-run_else}
+use Rattle.ng_view.specs.Notes.{IsClearedRun, NotesRun, excuse_of_call, plain_run}
+use Rattle.ng_rule.proofs.lock.Knowing.{sees-run_else}
 use Rattle.ng_mapper.specs.Mapping.{AreLaid, IsSpan, Span}
 use Rattle.ng_mapper.specs.Runs as mapper
 use Rattle.ng_mapper.specs.declared.refusals.Refusals.{Refusals}

@@ -16,8 +16,8 @@ use Rattle.ng_view.specs.declared.view.Group.{Group}
 use Rattle.ng_view.specs.declared.view.Held.{Held}
 use Rattle.ng_view.specs.declared.view.Start.{Start}
 use Rattle.ng_view.specs.declared.view.View.{View}
-use Rattle.ng_lock_moves.specs.Fetches.{HasGroup}
-use Rattle.ng_lock_moves.specs.Notes.{NotesRing}
+use Rattle.ng_view.specs.Fetches.{HasGroup}
+use Rattle.ng_view.specs.Notes.{NotesRing}
 use Rattle.ng_mask.specs.Fetches.{OfGroup}
 use Rattle.ng_serve.specs.Groups.{Describes}
 use Rattle.ng_serve.specs.Reads.{AreAt}

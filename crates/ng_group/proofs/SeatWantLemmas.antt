@@ -2,7 +2,7 @@
 use Rattle.std.proofs.Common.{◌≡◌, ◌⊎◌, ◌↔◌, ℕ, ◌+◌, ◌*◌, ◌%◌, ◌^◌, ◌<◌, Bool, true, false, IsTrue, List, ◌∷◌, refl, sym, ap, ◌∙◌, subst, arith}
 use Rattle.ng_view.specs.Lists.{count_of}
 use Rattle.ng_class.specs.Class.{IsLeastClass, units_of}
-use Rattle.ng_lock_moves.specs.Notes.{plain_run}
+use Rattle.ng_view.specs.Notes.{plain_run}
 use Rattle.ng_mapper.specs.Runs as mapper
 use Rattle.ng_mapper.specs.declared.refusals.Refusals.{Refusals}
 use Rattle.ng_policy.specs.Ask.{IsCount}

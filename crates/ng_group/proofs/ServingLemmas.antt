@@ -15,8 +15,8 @@ use Rattle.ng_view.specs.Places.{stride}
 use Rattle.ng_view.specs.declared.view.Group.{Group}
 use Rattle.ng_view.specs.declared.view.Start.{Start}
 use Rattle.ng_view.specs.declared.view.View.{View}
-use Rattle.ng_lock_moves.specs.Fetches.{HasGroup}
-use Rattle.ng_lock_moves.specs.Notes.{NotesRing}
+use Rattle.ng_view.specs.Fetches.{HasGroup}
+use Rattle.ng_view.specs.Notes.{NotesRing}
 use Rattle.ng_serve.specs.Groups.{AreInSpace, RingLives}
 use Rattle.ng_ledger.specs.Groups.{AreGroups, IsOfClass}
 use Rattle.ng_ledger.specs.Rings.{ChangesRing, IsIn}

@@ -1,7 +1,7 @@
 -- The slot that carried a group is in the seat again once the group is no more.
 use Rattle.std.proofs.Common.{◌≡◌, ℕ, ◌+◌, ◌≤◌, ◌&&◌, eqb, cond, Bool, true, List, [], ◌∷◌, ◌++◌, Option, None, Some, refl, sym, ap, ◌∙◌, subst, arith}
 use Rattle.std.proofs.lemmas.Bool.{eq-eqb}
-use Rattle.ng_lock_moves.specs.Groups.{IsCarriedIn}
+use Rattle.ng_view.specs.Groups.{IsCarriedIn}
 use Rattle.ng_view.specs.Lists.{Among, edit, find, is_at}
 use Rattle.ng_view.specs.LockSteps.{carrier, groups_but, nest_of, outside, retired_nested}
 use Rattle.ng_view.specs.Places.{slot_start, stride}

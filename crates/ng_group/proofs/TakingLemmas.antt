@@ -13,7 +13,7 @@ use Rattle.ng_view.specs.Slots.{IsPlain}
 use Rattle.ng_view.specs.declared.view.Group.{Group}
 use Rattle.ng_view.specs.declared.view.Start.{Start}
 use Rattle.ng_view.specs.declared.view.View.{View}
-use Rattle.ng_lock_moves.specs.Masks.{IsServing}
+use Rattle.ng_view.specs.Masks.{IsServing}
 use Rattle.ng_mask.specs.Fetches.{OfGroup}
 use Rattle.ng_serve.specs.Groups.{Describes}
 use Rattle.ng_serve.specs.Takes.{IsServed}

@@ -4,7 +4,7 @@ use Rattle.ng_mapper.specs.Mapping.{Span}
 use Rattle.ng_mapper.specs.Runs as mapper
 use Rattle.ng_mapper.specs.declared.refusals.Refusals.{Refusals}
 use Rattle.ng_lists.specs.Rings.{IsListed, RingTable}
-use Rattle.ng_lock_moves.specs.Groups.{Retires}
+use Rattle.ng_view.specs.Groups.{Retires}
 use Rattle.ng_view.specs.LockSteps.{groups_but, retired_nested}
 use Rattle.ng_view.specs.declared.view.Group.{Group}
 use Rattle.ng_view.specs.declared.view.Start.{Start}

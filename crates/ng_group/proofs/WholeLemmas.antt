@@ -9,9 +9,9 @@ use Rattle.ng_view.specs.LockSteps.{avail_emptied, avail_read, bits_of, freed_ta
 use Rattle.ng_view.specs.Steps.{read}
 use Rattle.ng_view.specs.declared.view.Group.{Group}
 use Rattle.ng_view.specs.declared.view.View.{View}
-use Rattle.ng_lock_moves.specs.Fetches.{HasGroup}
-use Rattle.ng_lock_moves.specs.Loads.{Loads, TellsGroups, freed_read}
-use Rattle.ng_lock_moves.specs.Masks.{IsServing, TellsAvail, TellsFreed}
+use Rattle.ng_view.specs.Fetches.{HasGroup}
+use Rattle.ng_view.specs.Loads.{Loads, TellsGroups, freed_read}
+use Rattle.ng_view.specs.Masks.{IsServing, TellsAvail, TellsFreed}
 use Rattle.ng_mask.specs.Fetches.{Captures, OfGroup, slots_of}
 use Rattle.ng_mask.proofs.Bits.{bit_at_low}
 use Rattle.ng_serve.specs.Takes.{HasCaptured, IsServed, PutsCaptured}

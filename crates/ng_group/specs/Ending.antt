@@ -2,7 +2,7 @@
 use Rattle.std.specs.Prelude.{◌≡◌, ℕ, ◌+◌}
 use Rattle.ng_view.specs.LockSteps.{groups_but}
 use Rattle.ng_view.specs.declared.view.View.{View}
-use Rattle.ng_lock_moves.specs.Groups.{Retires}
+use Rattle.ng_view.specs.Groups.{Retires}
 use Rattle.ng_build.specs.Cells.{AreZero, KeepsOutside, OnlyCells}
 use Rattle.ng_ledger.specs.Usage.{AreUsed}
 use Rattle.ng_group.specs.States.{State}

@@ -1,7 +1,7 @@
 -- Whether a slot and those of a group's masks are all of its slots.
 use Rattle.std.specs.Prelude.{◌≡◌, ℕ, ◌<◌, ◌≤◌}
 use Rattle.std.specs.Int.{bit_at}
-use Rattle.ng_lock_moves.specs.Masks.{IsServing}
+use Rattle.ng_view.specs.Masks.{IsServing}
 use Rattle.ng_mask.specs.Fetches.{OfGroup}
 use Rattle.ng_view.specs.Lists.{Among}
 use Rattle.ng_view.specs.declared.view.View.{View}

@@ -1,6 +1,6 @@
 -- What a hand comes to have by a call of the core.
 use Rattle.std.specs.Prelude.{◌≡◌, ◌≢◌, ◌⊎◌, ℕ, ◌+◌, ◌≤◌, List, [], ◌∷◌, Some}
-use Rattle.ng_lock_moves.specs.Notes.{excuse_of_call}
+use Rattle.ng_view.specs.Notes.{excuse_of_call}
 use Rattle.ng_view.specs.Blocks.{Knows}
 use Rattle.ng_view.specs.Steps.{popped, with_excuse}
 use Rattle.ng_view.specs.declared.view.Group.{Group}

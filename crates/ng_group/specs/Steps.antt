@@ -1,7 +1,7 @@
 -- What a call of the core leaves as it was.
 use Rattle.std.specs.Prelude.{◌≡◌, ◌≢◌, ℕ, ◌<◌, ◌∷◌, ◌++◌, List, slice_index}
 use Rattle.ng_lists.specs.Rings.{ring_of}
-use Rattle.ng_lock_moves.specs.Notes.{excuse_of_call}
+use Rattle.ng_view.specs.Notes.{excuse_of_call}
 use Rattle.ng_mapper.specs.declared.refusals.Refusals.{Refusals}
 use Rattle.ng_terms.specs.Causes.{Rose}
 use Rattle.ng_view.specs.Lists.{Among}

@@ -6,7 +6,7 @@ ghost use Rattle.ng_policy.specs.Ask.{AskInRange, IsCount};
 ghost use Rattle.ng_ledger.specs.Rings.{IsBare, entered_first};
 ghost use Rattle.ng_ledger.specs.Standing.{KeepsHand};
 ghost use Rattle.ng_lists.specs.Rings.{IsListed};
-ghost use Rattle.ng_lock_moves.specs.Notes.{plain_run};
+ghost use Rattle.ng_view.specs.Notes.{plain_run};
 ghost use Rattle.ng_shelf.specs.Shape.{IsNestedSize, shape_of};
 ghost use Rattle.ng_group.specs.Building.{HasBuilt, HasInHand, IsCarriedBy, LeavesAll, with_used};
 ghost use Rattle.ng_group.specs.Serving.{HasServed};
@@ -17,14 +17,12 @@ use crate::works::Works;
 use ng_build::{Carrier, Draft, publish_run, publish_slot};
 use ng_class::{slot_start, stride};
 use ng_mapper::Mapper;
+use ng_meta::GROUP_HEAD;
 use ng_policy::{Ask, Rules};
 use ng_serve::group_of;
 use ng_shelf::{first_active, run_shape};
 use ng_space::{Name, Space};
 use ng_supply::map_run;
-
-/// The bytes of a group before its first slot.
-const GROUP_HEAD: u64 = 16;
 
 impl<N: Name, M: Mapper, P: Rules> Works<N, M, P> {
     /// Builds a group on a run of its own, with its meta in hand, for a block of so many bytes, where the rules want

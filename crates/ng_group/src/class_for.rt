@@ -7,18 +7,11 @@ ghost use Rattle.ng_serve.specs.Reads.{Notes};
 
 use crate::heap_core::Core;
 use ng_class::class_of;
+use ng_lists::CLASSES;
 use ng_mapper::Mapper;
-use ng_meta::mask_of;
+use ng_meta::{AVAIL, FREED, mask_of};
 use ng_policy::{Rules, coarse};
 use ng_space::{Name, Space};
-
-// Where a meta has its masks.
-const AVAIL: u64 = 24;
-
-const FREED: u64 = 28;
-
-/// How many classes of slots there are.
-const CLASSES: u32 = 48;
 
 impl<N: Name, M: Mapper, P: Rules> Core<N, M, P> {
     /// The class that serves a request of so many bytes: the least one with room for them and 4, or the next, where no

@@ -13,12 +13,10 @@ use crate::works::Works;
 use ng_build::{Draft, publish_run};
 use ng_class::{IB, LONE, UNIT};
 use ng_mapper::Mapper;
+use ng_meta::PAGE_BYTES;
 use ng_policy::Rules;
 use ng_space::{Name, Space};
 use ng_supply::{find_meta, map_run};
-
-/// The bytes of a page.
-const PAGE: u64 = 4096;
 
 impl<N: Name, M: Mapper, P: Rules> Works<N, M, P> {
     /// Builds a group that is one block of so many bytes, and gets its slot into the seat, by its meta. The number of a
@@ -74,7 +72,7 @@ impl<N: Name, M: Mapper, P: Rules> Works<N, M, P> {
         ensures rules { self.new.rules ≡ self.old.rules }
     {
         self.bounce.step();
-        let pages = (bytes + UNIT + IB).div_ceil(PAGE);
+        let pages = (bytes + UNIT + IB).div_ceil(PAGE_BYTES);
         let base = map_run(space, &mut self.seat, &mut self.mapper, pages)?;
         self.counter = self.counter.wrapping_add(1);
         let draft = Draft {

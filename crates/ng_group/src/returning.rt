@@ -3,7 +3,7 @@ ghost use Rattle.std.specs.Prelude.{◌≡◌, ◌+◌, ◌<◌, ◌≤◌, ◌�
 ghost use Rattle.ng_class.specs.Mask.{FillsGroup};
 ghost use Rattle.ng_meta.specs.Place.{IsMetaPlace};
 ghost use Rattle.ng_policy.specs.Ask.{SpareInRange};
-ghost use Rattle.ng_lock_moves.specs.Fetches.{HasGroup};
+ghost use Rattle.ng_view.specs.Fetches.{HasGroup};
 ghost use Rattle.ng_mask.specs.Fetches.{OfGroup};
 ghost use Rattle.ng_view.specs.Lists.{Among};
 ghost use Rattle.ng_view.specs.Slots.{IsPlain};
@@ -22,15 +22,10 @@ use crate::works::Works;
 use ng_class::{LONE, UNIT, all_bits, stride, units};
 use ng_mapper::Mapper;
 use ng_mask::capture;
-use ng_meta::mask_of;
+use ng_meta::{AVAIL, FREED, mask_of};
 use ng_policy::{Rules, Spare};
 use ng_serve::{LiveGroup, group_of, put_captured, put_slot};
 use ng_space::{LockSeat, Name, Space};
-
-// Where a meta has its masks.
-const AVAIL: u64 = 24;
-
-const FREED: u64 = 28;
 
 impl<N: Name, M: Mapper, P: Rules> Works<N, M, P> {
     /// Returns the slot in the seat to its group, whose numbers are given. The group is torn down where all of its slots

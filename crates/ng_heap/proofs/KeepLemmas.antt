@@ -1,7 +1,7 @@
 -- What calls leave of a hand, one after the other, and where no slot changes.
 use Rattle.std.proofs.Common.{◌≡◌, ℕ, eqb, eq-eqb, cond, true, List, [], ◌∷◌, ◌++◌, refl, sym, ap, ◌∙◌, subst}
 use Rattle.std.proofs.lemmas.List.{append_assoc}
-use Rattle.ng_lock_moves.specs.Notes.{excuse_of_call}
+use Rattle.ng_view.specs.Notes.{excuse_of_call}
 use Rattle.ng_terms.specs.declared.entry.Entry.{Entry}
 use Rattle.ng_view.specs.Lists.{Among, find}
 use Rattle.ng_view.specs.Steps.{without_one}

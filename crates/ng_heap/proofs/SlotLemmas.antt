@@ -8,7 +8,7 @@ use Rattle.ng_mapper.specs.declared.refusals.Refusals.{Refusals}
 use Rattle.ng_policy.specs.declared.ask.Ask.{Ask}
 use Rattle.ng_terms.specs.Causes.{Rose}
 use Rattle.ng_terms.specs.declared.refusal.AllocRefusal.TheVariants.{NoMemory}
-use Rattle.ng_geometry.proofs.Lists.{is_at-here}
+use Rattle.ng_rule.proofs.geometry.Lists.{is_at-here}
 use Rattle.ng_view.specs.Lists.{Among, find, is_at}
 use Rattle.ng_view.specs.Steps.{in_motion}
 use Rattle.ng_view.specs.declared.view.Held.{Held}

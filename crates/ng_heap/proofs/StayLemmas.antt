@@ -6,7 +6,7 @@ use Rattle.std.specs.Prelude.{Option, Some, None}
 use Rattle.ng_frame.specs.Framed.{AreFramed}
 use Rattle.ng_frame.specs.Keeps.{KeepsOthers, KeepsRest, KeepsSlots}
 use Rattle.ng_frame.proofs.Keeps.{learns_itself, not_at}
-use Rattle.ng_geometry.proofs.Lists.{among_without}
+use Rattle.ng_rule.proofs.geometry.Lists.{among_without}
 use Rattle.ng_terms.specs.declared.entry.Extent.{Extent}
 use Rattle.ng_view.specs.Lists.{Among, find, is_at, without}
 use Rattle.ng_view.specs.Places.{room, slot_end, slot_start}

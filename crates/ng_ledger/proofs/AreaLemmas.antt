@@ -1,6 +1,6 @@
 -- Which metas are of an area, when a run comes, becomes an area or goes.
 use Rattle.std.proofs.Common.{◌≡◌, ◌⊎◌, ℕ, ◌<◌, true, false, true≢false, List, ◌∷◌, refl, sym, ap, subst, ◌∙◌, inl, inr}
-use Rattle.ng_geometry.proofs.Lists.{run_stays, run_was}
+use Rattle.ng_rule.proofs.geometry.Lists.{run_stays, run_was}
 use Rattle.ng_meta.specs.Place.{meta_place}
 use Rattle.ng_view.specs.Layouts.{InArea, IsAreaAt}
 use Rattle.ng_view.specs.LockSteps.{runs_but}

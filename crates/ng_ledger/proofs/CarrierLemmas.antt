@@ -2,8 +2,8 @@
 use Rattle.std.proofs.Common.{◌≡◌, ◌≢◌, ℕ, ◌+◌, ◌≤◌, eqb, cond, Bool, true, false, List, [], ◌∷◌, Some, refl, sym, ap, subst, ◌∙◌, ⊎_elim, inl, inr, arith}
 use Rattle.std.proofs.lemmas.Bool.{cases_eq, eqb-true, eqb-false}
 use Rattle.std.proofs.lemmas.Option.{none-some, same_Some}
-use Rattle.ng_geometry.proofs.Bits.{count_of-same, count_of-other}
-use Rattle.ng_geometry.proofs.Lists.{count_of-most, total_by-among}
+use Rattle.ng_rule.proofs.geometry.Bits.{count_of-same, count_of-other}
+use Rattle.ng_rule.proofs.geometry.Lists.{count_of-most, total_by-among}
 use Rattle.ng_meta.specs.Place.{IsMetaPlace}
 use Rattle.ng_shelf.specs.Parents.{IsSameBut, ParentTable, parent_of}
 use Rattle.ng_view.specs.LockSteps.{groups_but, nest_of, without_nest}

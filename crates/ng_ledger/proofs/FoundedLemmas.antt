@@ -1,7 +1,7 @@
 -- Each live group with pages of its own begins at its run, when groups and runs come and go.
 use Rattle.std.proofs.Common.{◌≡◌, ◌≢◌, ℕ, ◌<◌, List, ◌∷◌, sym, ap, subst, ◌∙◌, inl, inr, arith}
-use Rattle.ng_geometry.proofs.Lists.{run_stays}
-use Rattle.ng_lock_moves.specs.Notes.{plain_run}
+use Rattle.ng_rule.proofs.geometry.Lists.{run_stays}
+use Rattle.ng_view.specs.Notes.{plain_run}
 use Rattle.ng_view.specs.LockSteps.{groups_but, runs_but}
 use Rattle.ng_view.specs.Lists.{Among}
 use Rattle.ng_view.specs.declared.view.Group.{Group}

@@ -4,7 +4,7 @@ use Rattle.std.proofs.lemmas.Bool.{cases_eq, eqb-true, eqb-false, eq-eqb, ne_eqb
 use Rattle.ng_view.specs.Lists.{Among, count_of}
 use Rattle.ng_view.specs.LockSteps.{groups_but}
 use Rattle.ng_view.specs.declared.view.Group.{Group}
-use Rattle.ng_geometry.proofs.Lists.{total_by-among}
+use Rattle.ng_rule.proofs.geometry.Lists.{total_by-among}
 use Rattle.ng_ledger.specs.Groups.{AreGroups, IsGroup, IsOfClass, IsUnborn, metas_at}
 
 -- no group is counted at a meta without one

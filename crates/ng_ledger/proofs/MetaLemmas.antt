@@ -8,7 +8,7 @@ use Rattle.ng_meta.proofs.PlaceLemmas.{metas_apart}
 use Rattle.ng_mapper.specs.Mapping.{AreLaid, Span}
 use Rattle.ng_mapper.specs.Runs as mapper
 use Rattle.ng_shelf.specs.Stock.{Stock, free_of, metas_from, metas_of}
-use Rattle.ng_lock_moves.proofs.Knowing.{off_else, still_known}
+use Rattle.ng_rule.proofs.lock.Knowing.{off_else, still_known}
 use Rattle.ng_view.specs.Layouts.{InArea}
 use Rattle.ng_view.specs.LockSteps.{cells_off, groups_but}
 use Rattle.ng_view.specs.Lists.{Among}

@@ -4,9 +4,9 @@ use Rattle.std.proofs.lemmas.Bool.{cases_eq}
 use Rattle.std.proofs.lemmas.List.Elements.{All-contains, Contains-append_right}
 use Rattle.std.proofs.lemmas.List.Sorted.{Contains-permutation, IsPermutation-sym, sum_by-IsPermutation}
 use Rattle.std.proofs.lemmas.List.Sums.{get_or-le-sum_by, sum_by-cons}
-use Rattle.ng_lock_moves.specs.Notes.{IsNewRun, plain_run}
-use Rattle.ng_geometry.proofs.Bits.{count_of-same, count_of-other}
-use Rattle.ng_geometry.proofs.Lists.{run_stays, run_was}
+use Rattle.ng_view.specs.Notes.{IsNewRun, plain_run}
+use Rattle.ng_rule.proofs.geometry.Bits.{count_of-same, count_of-other}
+use Rattle.ng_rule.proofs.geometry.Lists.{run_stays, run_was}
 use Rattle.ng_mapper.specs.Mapping.{AreLaid, IsFree, IsSpan, Span}
 use Rattle.ng_mapper.specs.Runs as mapper
 use Rattle.ng_mapper.proofs.LaidLemmas.{apart-contained, lies-contained}

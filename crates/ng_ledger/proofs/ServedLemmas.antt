@@ -1,8 +1,8 @@
 -- Each noted run is an area or that of a live group, when groups and runs come and go.
 use Rattle.std.proofs.Common.{◌≡◌, ◌≢◌, ℕ, ◌<◌, List, ◌∷◌, refl, sym, ap, ◌∙◌, ⊎_elim, inl, inr, arith}
 use Rattle.std.proofs.lemmas.Bool.{cases_eq}
-use Rattle.ng_geometry.proofs.Lists.{run_was}
-use Rattle.ng_lock_moves.specs.Notes.{plain_run}
+use Rattle.ng_rule.proofs.geometry.Lists.{run_was}
+use Rattle.ng_view.specs.Notes.{plain_run}
 use Rattle.ng_view.specs.Conditions.{IsSettled}
 use Rattle.ng_view.specs.LockSteps.{groups_but, runs_but}
 use Rattle.ng_view.specs.Lists.{Among}

@@ -2,8 +2,8 @@
 use Rattle.std.proofs.Common.{◌≡◌, ◌≢◌, ℕ, zero, suc, ◌+◌, ◌-◌, ◌*◌, ◌^◌, ◌<◌, ◌≤◌, eqb, cond, Bool, true, false, List, [], ◌∷◌, length, slice_index, slice_set, refl, sym, ap, ◌∙◌, ⊎_elim, inl, inr, arith}
 use Rattle.std.proofs.lemmas.Bool.{cases_eq, eq-eqb, ne_eqb}
 use Rattle.std.proofs.lemmas.List.{get_or-set_same, get_or-set_other, length-set}
-use Rattle.ng_geometry.proofs.Bits.{count_of-same, count_of-other}
-use Rattle.ng_geometry.proofs.Lists.{count_of-most}
+use Rattle.ng_rule.proofs.geometry.Bits.{count_of-same, count_of-other}
+use Rattle.ng_rule.proofs.geometry.Lists.{count_of-most}
 use Rattle.ng_meta.specs.Place.{IsMetaPlace}
 use Rattle.ng_lists.specs.Place.{address_at, index_at}
 use Rattle.ng_lists.proofs.PlaceLemmas.{address_at-index_at, index_below}

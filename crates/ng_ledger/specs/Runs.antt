@@ -1,6 +1,6 @@
 -- What ties the mapper's runs to the noted ones.
 use Rattle.std.specs.Prelude.{◌≡◌, ◌⊎◌, ℕ, ◌<◌, true, List, Contains}
-use Rattle.ng_lock_moves.specs.Notes.{plain_run}
+use Rattle.ng_view.specs.Notes.{plain_run}
 use Rattle.ng_mapper.specs.Runs as mapper
 use Rattle.ng_view.specs.Lists.{Among}
 use Rattle.ng_view.specs.declared.view.Group.{Group}

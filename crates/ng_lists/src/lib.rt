@@ -5,8 +5,8 @@ mod links;
 mod place;
 mod rings;
 
-pub use place::{METAS, address_of, index_of};
-pub use rings::Rings;
+pub use place::{address_of, index_of};
+pub use rings::{CLASSES, Rings};
 
 #[cfg(test)]
 mod tests;

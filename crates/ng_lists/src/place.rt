@@ -2,10 +2,7 @@
 ghost use Rattle.std.specs.Prelude.{◌≡◌, ◌<◌, ◌≤◌, ◌%◌, ◌^◌};
 ghost use Rattle.ng_lists.specs.Place.{address_at, index_at};
 
-use ng_meta::meta_at;
-
-/// How many metas a page has room for.
-pub const METAS: u32 = 101;
+use ng_meta::{METAS, PAGE_BYTES, meta_at};
 
 /// The index of the meta at an address.
 pub fn index_of(meta: u64) -> u32
@@ -23,5 +20,5 @@ pub fn address_of(index: u32) -> u64
     requires { index < 2 ^ 21 }
     ensures { result ≡ address_at index }
 {
-    meta_at(4096 * u64::from(index / METAS), index % METAS)
+    meta_at(PAGE_BYTES * u64::from(index / METAS), index % METAS)
 }

@@ -3,14 +3,14 @@ ghost use Rattle.ng_meta.specs.Place.{IsMetaPlace};
 ghost use Rattle.ng_lists.specs.Rings.{AreApart, IsListed, next_in, ring_of, rotated, with_ring, without};
 
 use crate::links::Links;
-use crate::place::{METAS, address_of, index_of};
-use ng_meta::is_meta_place;
+use crate::place::{address_of, index_of};
+use ng_meta::{METAS, is_meta_place};
 use ng_terms::Host;
 use std::alloc::Global;
 use std::marker::Model;
 
 /// How many size classes have a ring.
-const CLASSES: usize = 48;
+pub const CLASSES: u32 = 48;
 
 /// The ring of each of the 48 size classes: the addresses of its metas, in cyclic order from the first one on. A meta
 /// stands in one ring at most, and there once.
@@ -52,7 +52,10 @@ impl Rings {
     {
         let count = (METAS * pages) as usize;
         let links = Links::open(alloc, count)?;
-        let (Ok(heads), Ok(marks)) = (vec![in alloc; 0; CLASSES], vec![in alloc; 0; count]) else {
+        let (Ok(heads), Ok(marks)) = (
+            vec![in alloc; 0; CLASSES as usize],
+            vec![in alloc; 0; count],
+        ) else {
             return Err(Host);
         };
         Ok(Rings {

@@ -12,7 +12,7 @@ use Rattle.ng_view.specs.Steps.{in_motion, popped, read}
 use Rattle.ng_view.specs.declared.view.Group.{Group}
 use Rattle.ng_view.specs.declared.view.Held.{Held}
 use Rattle.ng_view.specs.declared.view.View.{View}
-use Rattle.ng_lock_moves.specs.Fetches.{ClearsFreed, EmptiesAvail, HasGroup, MayPutBack, StocksAvail}
+use Rattle.ng_view.specs.Fetches.{ClearsFreed, EmptiesAvail, HasGroup, MayPutBack, StocksAvail}
 use Rattle.ng_mask.specs.Fetches.{Captures, FindsNone, LeavesOthers, MayStock, OfGroup, Stocks, Takes, TakesLast, TakesLowest, bare_noted, slots_of}
 use Rattle.ng_mask.proofs.Bits.{alone, bit_at_low, bits_of_both, bits_of_low, none_left, not_alone, rest_of, rest_splits}
 use Rattle.ng_mask.proofs.Motion.{SplitsInto, bits_of-pow, others_are_left, part_is_out}

@@ -9,8 +9,8 @@ use Rattle.ng_view.specs.LockSteps.{AreOut, bits_of, let_go}
 use Rattle.ng_view.specs.Steps.{in_motion}
 use Rattle.ng_view.specs.declared.view.Group.{Group}
 use Rattle.ng_view.specs.declared.view.Held.{Held}
-use Rattle.ng_geometry.proofs.Lists.{is_at-here}
-use Rattle.ng_group_moves.proofs.Publish.{among_select}
+use Rattle.ng_rule.proofs.geometry.Lists.{is_at-here}
+use Rattle.ng_rule.proofs.group.Publish.{among_select}
 use Rattle.ng_mask.specs.Fetches.{slots_of}
 
 -- ---- what a test selects

@@ -9,7 +9,7 @@ use Rattle.ng_view.specs.Tells.{Tells}
 use Rattle.ng_view.specs.declared.view.Held.{Held}
 use Rattle.ng_view.specs.declared.view.View.{View}
 use Rattle.ng_view.specs.declared.view.Start.{Start}
-use Rattle.ng_geometry.proofs.Lists.{find_among, is_at-true}
+use Rattle.ng_rule.proofs.geometry.Lists.{find_among, is_at-true}
 use Rattle.ng_mask.specs.Pushes.{Answers, Fills, HasPushCause, Loads, Loses, LosesOnce, Pushed}
 use Rattle.ng_mask.specs.declared.outcome.Push.{Push}
 

@@ -7,8 +7,8 @@ use Rattle.ng_view.specs.Steps.{in_motion, popped, read}
 use Rattle.ng_view.specs.declared.view.Group.{Group}
 use Rattle.ng_view.specs.declared.view.Held.{Held}
 use Rattle.ng_view.specs.declared.view.View.{View}
-use Rattle.ng_lock_moves.specs.Fetches.{ClearsFreed, EmptiesAvail, HasGroup, MayPutBack, StocksAvail}
-use Rattle.ng_lock_moves.specs.Masks.{TellsAvail}
+use Rattle.ng_view.specs.Fetches.{ClearsFreed, EmptiesAvail, HasGroup, MayPutBack, StocksAvail}
+use Rattle.ng_view.specs.Masks.{TellsAvail}
 
 -- so it is of the live group of that meta
 abbrev pub OfGroup : View → ℕ → (Group → Type 0) → Type 0

@@ -1,7 +1,7 @@
 // What the lock's seat fetches out of the masks of live groups, and sets in them again.
 ghost use Rattle.std.specs.Prelude.{◌≡◌, ◌<◌, IfNone, IfSome};
 ghost use Rattle.ng_meta.specs.Place.{IsMetaPlace};
-ghost use Rattle.ng_lock_moves.specs.Fetches.{HasGroup};
+ghost use Rattle.ng_view.specs.Fetches.{HasGroup};
 ghost use Rattle.ng_mask.specs.Fetches.{Captures, FindsNone, MayStock, Stocks, Takes, TakesLowest};
 
 use ng_class::{all_bits, lowest_bit};

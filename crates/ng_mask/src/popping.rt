@@ -5,14 +5,11 @@ ghost use Rattle.ng_space.specs.Tokens.{HasSlot};
 ghost use Rattle.ng_mask.specs.Pops.{HasPopCause, OnWon};
 
 use crate::outcome::Pop;
-use ng_meta::{mask_of, tag_of};
+use ng_meta::{AVAIL, mask_of, tag_of};
 use ng_space::{Hand, Name, Space};
 
 /// The most exchanges that one call makes.
 pub(crate) const MOST_TRIES: u32 = 32;
-
-/// Where the avail word of a meta is.
-pub(crate) const AVAIL: u64 = 24;
 
 /// Takes the lowest slot that is available in the group of a meta, if the group is of that class.
 pub fn pop<N: Name>(space: &Space<N>, hand: &mut Hand<N>, meta: u64, class: u32) -> Pop<N>

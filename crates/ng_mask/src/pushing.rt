@@ -4,16 +4,10 @@ ghost use Rattle.ng_space.specs.Tokens.{HasSlot};
 ghost use Rattle.ng_mask.specs.Pushes.{HasPushCause, OnLeft};
 
 use crate::outcome::{Needs, Push};
-use crate::popping::{AVAIL, MOST_TRIES};
+use crate::popping::MOST_TRIES;
 use ng_class::all_bits;
-use ng_meta::mask_of;
+use ng_meta::{AVAIL, FLAGS, FREED, mask_of};
 use ng_space::{Hand, Name, Slot, Space};
-
-/// Where the freed mask of a meta is.
-const FREED: u64 = 28;
-
-/// Where the low half of a meta's flags is, whose lowest five bits are the group's last index.
-const FLAGS: u64 = 32;
 
 /// Puts a slot into its group's freed mask, unless the group then needs more than that.
 pub fn push<N: Name>(space: &Space<N>, hand: &mut Hand<N>, mut slot: Slot<N>) -> Push<N>

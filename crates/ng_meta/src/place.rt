@@ -1,14 +1,7 @@
 ghost use Rattle.std.specs.Prelude.{◌%◌, ◌<◌, ◌^◌, ◌≡◌, ◌↔◌, IsTrue};
 ghost use Rattle.ng_meta.specs.Place.{IsApartFromOthers, IsMetaPlace, LiesIn, area_at, meta_place};
 
-// Of an area: its page, what stands before the metas, a meta, and how many there are.
-const PAGE_BYTES: u64 = 4096;
-
-const HEAD_BYTES: u64 = 24;
-
-const META_BYTES: u64 = 40;
-
-const METAS: u64 = 101;
+use crate::layout::{HEAD_BYTES, META_BYTES, METAS, PAGE_BYTES};
 
 /// The address of meta `i`, below 101, in the area at a page's address.
 pub fn meta_at(area: u64, i: u32) -> u64
@@ -34,7 +27,7 @@ pub fn is_meta_place(addr: u64, pages: u32) -> bool
         return false;
     }
     let behind = at - HEAD_BYTES;
-    behind % META_BYTES == 0 && behind / META_BYTES < METAS
+    behind % META_BYTES == 0 && behind / META_BYTES < u64::from(METAS)
 }
 
 /// The address of the page that an address lies in.

@@ -22,7 +22,7 @@ use Rattle.ng_view.specs.Views.{booked, desk_of, excuse_of, numbered}
 use Rattle.ng_view.specs.declared.view.Book.{Book}
 use Rattle.ng_view.specs.declared.view.Start.{Start}
 use Rattle.ng_view.specs.declared.view.View.{View}
-use Rattle.ng_geometry.proofs.Lists.{counted, total_by-among, total_by-one, total_by-some}
+use Rattle.ng_rule.proofs.geometry.Lists.{counted, total_by-among, total_by-one, total_by-some}
 use Rattle.ng_space.specs.Callers.{Caller, fresh_caller}
 use Rattle.ng_space.specs.Closings.{views_of}
 use Rattle.ng_space.proofs.Gathering.{views}

@@ -8,7 +8,7 @@ use Rattle.ng_lists.specs.Rings.{after, before, next_in, rotated}
 use Rattle.ng_lists.proofs.DistinctLemmas.{IsDistinct}
 use Rattle.ng_lists.proofs.MemberLemmas.{Contains-next_in, rotated_has}
 use Rattle.ng_lists.proofs.TableLemmas.{before-split}
-use Rattle.ng_lock_moves.specs.Fetches.{HasGroup}
+use Rattle.ng_view.specs.Fetches.{HasGroup}
 use Rattle.ng_serve.specs.Choices.{FindsAllBare, FindsBare, IsChoice}
 use Rattle.ng_serve.specs.Groups.{RingLives}
 use Rattle.ng_serve.specs.Reads.{IsBareIn, Notes, NotesBy}

@@ -9,7 +9,7 @@ use Rattle.ng_class.specs.Mask.{all_bits_of}
 use Rattle.ng_view.specs.Lists.{Among}
 use Rattle.ng_view.specs.LockSteps.{bits_of, let_go, others, seen_but}
 use Rattle.ng_view.specs.declared.view.View.{View}
-use Rattle.ng_lock_moves.specs.Fetches.{HasGroup, PushesFreed, StocksAvail}
+use Rattle.ng_view.specs.Fetches.{HasGroup, PushesFreed, StocksAvail}
 use Rattle.ng_mask.proofs.Motion.{SplitsInto}
 use Rattle.ng_mask.specs.Fetches.{Stocks, Takes}
 use Rattle.ng_serve.specs.Reads.{AreAt, Reads}

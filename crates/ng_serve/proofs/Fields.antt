@@ -8,9 +8,9 @@ use Rattle.ng_view.specs.Lists.{Among}
 use Rattle.ng_view.specs.Steps.{read}
 use Rattle.ng_view.specs.declared.view.Group.{Group}
 use Rattle.ng_view.specs.declared.view.View.{View}
-use Rattle.ng_lock_moves.specs.Fetches.{HasGroup}
-use Rattle.ng_lock_moves.specs.Loads.{IsField, Loads, TellsGroups}
-use Rattle.ng_lock_moves.specs.Stores.{IsActiveIndex, Stores}
+use Rattle.ng_view.specs.Fetches.{HasGroup}
+use Rattle.ng_view.specs.Loads.{IsField, Loads, TellsGroups}
+use Rattle.ng_view.specs.Stores.{IsActiveIndex, Stores}
 use Rattle.ng_mask.specs.Fetches.{OfGroup}
 use Rattle.ng_space.specs.Placed.{AreOfGroups, HasSlotOf}
 use Rattle.ng_serve.specs.Groups.{AreInSpace, Describes, IsInSpace, ReadsFields, ReadsIndex}

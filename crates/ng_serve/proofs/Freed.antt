@@ -12,8 +12,8 @@ use Rattle.ng_view.specs.LockSteps.{AreOut, bits_of, let_go}
 use Rattle.ng_view.specs.Steps.{in_motion}
 use Rattle.ng_view.specs.declared.view.Group.{Group}
 use Rattle.ng_view.specs.declared.view.View.{View}
-use Rattle.ng_lock_moves.specs.Fetches.{HasGroup}
-use Rattle.ng_lock_moves.specs.Masks.{IsServing, TellsFreed}
+use Rattle.ng_view.specs.Fetches.{HasGroup}
+use Rattle.ng_view.specs.Masks.{IsServing, TellsFreed}
 use Rattle.ng_mask.specs.Fetches.{MayStock, Stocks, Takes, slots_of}
 use Rattle.ng_mask.proofs.Bits.{rest_of, rest_splits}
 use Rattle.ng_mask.proofs.Motion.{SplitsInto, bits_of-pow, others_are_left, part_is_out}

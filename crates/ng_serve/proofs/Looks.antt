@@ -8,8 +8,8 @@ use Rattle.ng_view.specs.LockSteps.{read_bits}
 use Rattle.ng_view.specs.Steps.{read}
 use Rattle.ng_view.specs.declared.view.Group.{Group}
 use Rattle.ng_view.specs.declared.view.View.{View}
-use Rattle.ng_lock_moves.specs.Fetches.{HasGroup}
-use Rattle.ng_lock_moves.specs.Loads.{Loads, TellsGroups, freed_read}
+use Rattle.ng_view.specs.Fetches.{HasGroup}
+use Rattle.ng_view.specs.Loads.{Loads, TellsGroups, freed_read}
 use Rattle.ng_serve.specs.Choices.{FindsBare, IsChoice, ReadsMasks}
 use Rattle.ng_serve.specs.Groups.{AreInSpace}
 use Rattle.ng_serve.specs.Reads.{Notes, NotesBy, Reads}

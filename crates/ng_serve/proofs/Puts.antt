@@ -8,7 +8,7 @@ use Rattle.ng_view.specs.LockSteps.{AreOut, bits_of, let_go}
 use Rattle.ng_view.specs.declared.view.Group.{Group}
 use Rattle.ng_view.specs.declared.view.Held.{Held}
 use Rattle.ng_view.specs.declared.view.View.{View}
-use Rattle.ng_lock_moves.specs.Fetches.{MayPutBack, PushesFreed}
+use Rattle.ng_view.specs.Fetches.{MayPutBack, PushesFreed}
 use Rattle.ng_mask.specs.Fetches.{MayStock, Stocks, slots_of}
 use Rattle.ng_mask.proofs.Motion.{bits_of-pow, others_are_left, part_is_out}
 use Rattle.ng_serve.specs.Takes.{ChangesMasks, HasBare, HasCaptured, IsServed, PutsBits, PutsCaptured, PutsSlot}

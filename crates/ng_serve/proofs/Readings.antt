@@ -5,7 +5,7 @@ use Rattle.ng_view.specs.Lists.{Among}
 use Rattle.ng_view.specs.LockSteps.{avail_read, read_bits}
 use Rattle.ng_view.specs.Steps.{read}
 use Rattle.ng_view.specs.declared.view.View.{View}
-use Rattle.ng_lock_moves.specs.Loads.{freed_read}
+use Rattle.ng_view.specs.Loads.{freed_read}
 use Rattle.ng_serve.specs.Reads.{IsBareIn, NotesBy, Reads, with_notes}
 
 -- ---- what is among the elements of one list is among those of two

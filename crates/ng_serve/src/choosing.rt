@@ -3,7 +3,7 @@ ghost use Rattle.std.specs.Prelude.{◌≡◌, ◌⊎◌, ◌<◌, Contains, IfN
 ghost use Rattle.ng_meta.specs.Place.{IsMetaPlace};
 ghost use Rattle.ng_view.specs.Lists.{Among};
 ghost use Rattle.ng_lists.specs.Rings.{ring_of};
-ghost use Rattle.ng_lock_moves.specs.Fetches.{HasGroup};
+ghost use Rattle.ng_view.specs.Fetches.{HasGroup};
 ghost use Rattle.ng_serve.specs.Choices.{FindsAllBare, FindsBare, IsChoice, ReadsMasks, RingEmpty};
 ghost use Rattle.ng_serve.specs.Groups.{AreInSpace, RingLives};
 ghost use Rattle.ng_serve.specs.Reads.{Notes};
@@ -11,12 +11,8 @@ ghost use Rattle.ng_serve.specs.Reads.{Notes};
 use crate::group::{active_index, group_of};
 use ng_class::{all_bits, lowest_bit};
 use ng_lists::Rings;
+use ng_meta::{AVAIL, FREED};
 use ng_space::{LockSeat, Name, Space};
-
-/// Where a meta has its masks.
-const AVAIL: u64 = 24;
-
-const FREED: u64 = 28;
 
 /// A group with freed slots, by its meta, and the lowest of these slots.
 #[derive(Clone, Copy, Debug, PartialEq, Eq)]

@@ -1,24 +1,16 @@
 //! What a live group's words say of it, and how far its slots are in use.
 ghost use Rattle.std.specs.Prelude.{◌⊎◌, ◌+◌, ◌<◌, ◌≤◌};
 ghost use Rattle.ng_meta.specs.Place.{IsMetaPlace};
-ghost use Rattle.ng_lock_moves.specs.Fetches.{HasGroup};
-ghost use Rattle.ng_lock_moves.specs.Stores.{IsActiveIndex};
+ghost use Rattle.ng_view.specs.Fetches.{HasGroup};
+ghost use Rattle.ng_view.specs.Stores.{IsActiveIndex};
 ghost use Rattle.ng_mask.specs.Fetches.{OfGroup};
 ghost use Rattle.ng_space.specs.Placed.{AreOfGroups, HasSlotOf};
 ghost use Rattle.ng_serve.specs.Groups.{AreInSpace, Describes, IsRaisedTo, ReadsFields, ReadsIndex};
 ghost use Rattle.ng_serve.specs.Reads.{Reads};
 
-use ng_meta::{fields_of, mask_of, tag_of};
+use ng_meta::{ACTIVE, FLAGS, MEM, fields_of, mask_of, tag_of};
 use ng_shelf::raised;
 use ng_space::{LockSeat, Name, Space};
-
-/// Where a meta has its group's address, and where its flags.
-const MEM: u64 = 16;
-
-const FLAGS: u64 = 32;
-
-/// Where a group has the highest index of its slots in use, from its base on.
-const ACTIVE: u64 = 8;
 
 /// The numbers of a live group: its address, its size class, the index of its last slot, and the
 /// pages of its run, 0 for a nested one.

@@ -2,7 +2,7 @@
 ghost use Rattle.std.specs.Prelude.{◌<◌};
 ghost use Rattle.ng_meta.specs.Place.{IsMetaPlace};
 ghost use Rattle.ng_view.specs.Lists.{Among};
-ghost use Rattle.ng_lock_moves.specs.Fetches.{HasGroup};
+ghost use Rattle.ng_view.specs.Fetches.{HasGroup};
 ghost use Rattle.ng_serve.specs.Groups.{AreInSpace};
 ghost use Rattle.ng_serve.specs.Takes.{HasFreed, StocksFreed, TakesFreed};
 

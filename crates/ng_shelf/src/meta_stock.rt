@@ -3,13 +3,10 @@ ghost use Rattle.ng_meta.specs.Place.{IsMetaPlace};
 ghost use Rattle.ng_shelf.specs.Stock.{free_of, metas_of};
 
 use crate::free_metas::FreeMetas;
-use ng_meta::meta_at;
+use ng_meta::{METAS, meta_at};
 use ng_terms::Host;
 use std::alloc::Global;
 use std::marker::Model;
-
-/// How many metas an area has.
-const METAS: u32 = 101;
 
 /// The metas that have no group: those that were returned, and those of the newest area that were never used. Contracts
 /// see both as lists, in the order in which they are taken: the returned ones come first. A meta stands in them once at

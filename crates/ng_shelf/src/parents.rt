@@ -2,7 +2,8 @@ ghost use Rattle.std.specs.Prelude.{◌≡◌, ◌≢◌, ◌<◌, ◌≤◌, �
 ghost use Rattle.ng_meta.specs.Place.{IsMetaPlace};
 ghost use Rattle.ng_shelf.specs.Parents.{IsSameBut, parent_of};
 
-use ng_lists::{METAS, address_of, index_of};
+use ng_lists::{address_of, index_of};
+use ng_meta::METAS;
 use ng_terms::Host;
 use std::alloc::Global;
 use std::marker::Model;

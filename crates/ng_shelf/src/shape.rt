@@ -5,10 +5,8 @@ ghost use Rattle.ng_policy.specs.Ask.{AskInRange, IsCount};
 ghost use Rattle.ng_shelf.specs.Shape.{CrossesPages, IsFirstActive, IsNestedSize, IsOnly, IsRaised, first_active_of, group_bytes, makes_one, pages_of, shape_of};
 
 use ng_class::{IB, UNIT, units};
+use ng_meta::PAGE_BYTES;
 use ng_policy::Ask;
-
-/// The bytes of a page.
-const PAGE: u64 = 4096;
 
 /// The most bytes of a group that lies in a slot of another one.
 const NESTED: u64 = 2048;
@@ -68,7 +66,7 @@ pub fn first_active(class: u32, count: u32) -> u32
     ensures first { IsFirstActive class count result }
     ensures nested { IsNestedSize class count → result + 1 ≡ count }
 {
-    let fit = (PAGE - UNIT) / (UNIT * units(class));
+    let fit = (PAGE_BYTES - UNIT) / (UNIT * units(class));
     (fit.saturating_sub(1) as u32).min(count - 1)
 }
 
@@ -100,9 +98,9 @@ fn makes_one(ask: &Ask, bytes: u64, count: u32) -> bool
     if ask.bouncing || count > 7 {
         return false;
     }
-    let own = PAGE * pages_for(bytes + UNIT + IB);
+    let own = PAGE_BYTES * pages_for(bytes + UNIT + IB);
     own < UNIT * units(ask.class) + UNIT
-        || own >= 4 * PAGE && 2 * u64::from(count) > ask.usage + ask.near
+        || own >= 4 * PAGE_BYTES && 2 * u64::from(count) > ask.usage + ask.near
 }
 
 // The pages that hold so many bytes.
@@ -110,7 +108,7 @@ fn pages_for(bytes: u64) -> u64
     requires { bytes < 2 ^ 32 }
     ensures { result ≡ pages_of bytes }
 {
-    bytes.div_ceil(PAGE)
+    bytes.div_ceil(PAGE_BYTES)
 }
 
 // Whether a slot's first byte and its last lie in two pages, where the group begins with a page.
@@ -121,5 +119,5 @@ fn crosses_pages(class: u32, slot: u32) -> bool
 {
     let size = UNIT * units(class);
     let start = UNIT + size * u64::from(slot);
-    start / PAGE != (start + size - 1) / PAGE
+    start / PAGE_BYTES != (start + size - 1) / PAGE_BYTES
 }

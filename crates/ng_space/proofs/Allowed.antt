@@ -7,7 +7,7 @@ use Rattle.ng_view.specs.declared.view.Start.{Start}
 use Rattle.ng_view.specs.Rule.{Rule}
 use Rattle.ng_view.specs.May.{May}
 use Rattle.ng_view.specs.Cuts.{Merge}
-use Rattle.ng_moves.proofs.Joins.{joins}
+use Rattle.ng_rule.proofs.hand.Joins.{joins}
 use Rattle.ng_space.specs.Splits.{MaySplit}
 
 -- the rule of a table whose key is that start

@@ -6,7 +6,7 @@ use Rattle.ng_history.specs.Book as book
 use Rattle.ng_view.specs.LockSteps.{area_made, refused, ring_read, run_left, run_noted}
 use Rattle.ng_view.specs.Steps.{read}
 use Rattle.ng_view.specs.declared.view.View.{View}
-use Rattle.ng_lock_moves.specs.Notes.{NotesArea, NotesRefusal, NotesRing, NotesRun, excuse_of_call, plain_run}
+use Rattle.ng_view.specs.Notes.{NotesArea, NotesRefusal, NotesRing, NotesRun, excuse_of_call, plain_run}
 use Rattle.ng_space.specs.Seats.{IsLockSeat}
 use Rattle.ng_space.proofs.Stepped.{quietly}
 

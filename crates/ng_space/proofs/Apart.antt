@@ -5,10 +5,10 @@ use lib.ListN.{get_elem?}
 use Rattle.std.specs.Prelude.{Some, None}
 use Rattle.ng_terms.specs.Heap.{extent}
 use Rattle.ng_terms.specs.declared.entry.Extent.{Extent}
-use Rattle.ng_geometry.proofs.Facts.{held_leaf, held_slot, nested}
-use Rattle.ng_geometry.proofs.Lists.{among_one, find_among, is_at-true}
-use Rattle.ng_geometry.proofs.Nesting.{leaves_apart}
-use Rattle.ng_entry_moves.proofs.Gives.{four}
+use Rattle.ng_rule.proofs.geometry.Facts.{held_leaf, held_slot, nested}
+use Rattle.ng_rule.proofs.geometry.Lists.{among_one, find_among, is_at-true}
+use Rattle.ng_rule.proofs.geometry.Nesting.{leaves_apart}
+use Rattle.ng_rule.proofs.entry.Gives.{four}
 use Rattle.ng_view.specs.Blocks.{IsBlock, IsSet}
 use Rattle.ng_view.specs.Lists.{Among, find, is_at}
 use Rattle.ng_view.specs.Places.{Owns, room, slot_start}

@@ -22,9 +22,9 @@ use Rattle.ng_view.specs.declared.view.Nest.{Nest}
 use Rattle.ng_view.specs.declared.view.Run.{Run}
 use Rattle.ng_view.specs.declared.view.View.{View}
 use Rattle.ng_view.specs.declared.view.Start.{Start}
-use Rattle.ng_geometry.proofs.Lists.{total_by-one, total_by-two, desk_lead}
-use Rattle.ng_moves.proofs.Close.{all_slots, all_blocks, all_books}
-use Rattle.ng_moves.proofs.Settled.{all_settled, all_blank}
+use Rattle.ng_rule.proofs.geometry.Lists.{total_by-one, total_by-two, desk_lead}
+use Rattle.ng_rule.proofs.hand.Close.{all_slots, all_blocks, all_books}
+use Rattle.ng_rule.proofs.hand.Settled.{all_settled, all_blank}
 use Rattle.ng_space.specs.Closings.{AreRunsUsed, AreFreeMetasBlank}
 use Rattle.ng_space.proofs.Hosting.{hosted, AreDeskless, hosted-leads, hosted-desk, hosted-total, hosted-held, hosted-books, has-adds, blocks-adds, numbered-adds, booked-adds, stands-adds}
 

@@ -13,10 +13,10 @@ use Rattle.ng_view.specs.Tells.{Tells}
 use Rattle.ng_view.specs.Rule.{Rule}
 use Rattle.ng_view.specs.Views.{has, numbered}
 use Rattle.ng_view.specs.Steps.{loaded, entered, read, write}
-use Rattle.ng_geometry.proofs.Facts as facts
-use Rattle.ng_moves.proofs.Moves.{loads_may}
-use Rattle.ng_moves.proofs.Tell.{tells}
-use Rattle.ng_entry_moves.proofs.EnterMoves.{too_large_may, bad_align_may, refused_may}
+use Rattle.ng_rule.proofs.geometry.Facts as facts
+use Rattle.ng_rule.proofs.hand.Moves.{loads_may}
+use Rattle.ng_rule.proofs.hand.Tell.{tells}
+use Rattle.ng_rule.proofs.entry.EnterMoves.{too_large_may, bad_align_may, refused_may}
 use Rattle.ng_space.proofs.Placing.{lies_in}
 use Rattle.ng_space.specs.Placed.{AreOnce, ArePlaced}
 use Rattle.ng_space.specs.Entries.{IsLegalAnytime}

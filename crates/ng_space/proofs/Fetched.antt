@@ -9,7 +9,7 @@ use Rattle.ng_view.specs.Lists.{select}
 use Rattle.ng_view.specs.LockSteps.{avail_emptied, bits_of, bits_pushed, bits_stocked, freed_taken}
 use Rattle.ng_view.specs.Steps.{read}
 use Rattle.ng_view.specs.declared.view.View.{View}
-use Rattle.ng_lock_moves.specs.Fetches.{ClearsFreed, EmptiesAvail, HasGroup, PushesFreed, StocksAvail}
+use Rattle.ng_view.specs.Fetches.{ClearsFreed, EmptiesAvail, HasGroup, PushesFreed, StocksAvail}
 use Rattle.ng_space.specs.Seats.{IsLockSeat}
 use Rattle.ng_space.proofs.Locked.{lock_stays, still-fetched, still-let_go}
 

@@ -4,7 +4,7 @@ use Rattle.std.specs.Prelude.{min, Option}
 use Rattle.std.proofs.lemmas.Bool.{cases_eq, leb-true}
 use Rattle.std.proofs.lemmas.Bool.Decides.{nat_tests}
 use Rattle.ng_header.specs.Header.{cell_with}
-use Rattle.ng_moves.proofs.Load.{carries_more, still_knows}
+use Rattle.ng_rule.proofs.hand.Load.{carries_more, still_knows}
 use Rattle.ng_terms.specs.declared.entry.Extent.{Extent}
 use Rattle.ng_view.specs.Blocks.{Carries, Knows}
 use Rattle.ng_view.specs.Conditions.{Gives}

@@ -7,7 +7,7 @@ use Rattle.ng_view.specs.Lists.{Among, total_by}
 use Rattle.ng_view.specs.Steps.{hosting}
 use Rattle.ng_view.specs.Views.{no_desk, numbered}
 use Rattle.ng_view.specs.declared.view.View.{View}
-use Rattle.ng_geometry.proofs.Lists.{total_by-among}
+use Rattle.ng_rule.proofs.geometry.Lists.{total_by-among}
 use Rattle.ng_space.specs.Callers.{Caller}
 use Rattle.ng_space.specs.Closings.{AreAll, HasOwnBook, IsEven, books_of, views_of}
 use Rattle.ng_space.proofs.Entering.{one_number}

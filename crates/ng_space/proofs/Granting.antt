@@ -2,9 +2,9 @@
 use Rattle.std.proofs.Common.{◌≡◌, ℕ, ◌+◌, ◌-◌, ◌/◌, ◌%◌, ◌&&◌, ◌<◌, ◌≤◌, max, cond, true, ◌∷◌, refl, sym, ap, ◌∙◌, subst, inl, arith}
 use Rattle.std.specs.Prelude.{Some, None}
 use Rattle.std.proofs.lemmas.Bool.{le-leb}
-use Rattle.ng_geometry.proofs.Lists.{find_among, find_edit, is_at-true}
-use Rattle.ng_moves.proofs.Moves.{stores_in_may}
-use Rattle.ng_entry_moves.proofs.Gives.{gives_may, kills_may, regives_may}
+use Rattle.ng_rule.proofs.geometry.Lists.{find_among, find_edit, is_at-true}
+use Rattle.ng_rule.proofs.hand.Moves.{stores_in_may}
+use Rattle.ng_rule.proofs.entry.Gives.{gives_may, kills_may, regives_may}
 use Rattle.ng_terms.specs.Heap.{IsAlignment, extent}
 use Rattle.ng_terms.specs.declared.entry.Entry.{Entry}
 use Rattle.ng_terms.specs.declared.entry.Entry.TheVariants.{Give, Take, Resize, NoMemory, TooLarge, BadAlign, Refused}

@@ -11,9 +11,9 @@ use Rattle.ng_view.specs.declared.view.Group.{Group}
 use Rattle.ng_view.specs.declared.view.Held.{Held}
 use Rattle.ng_view.specs.declared.view.View.{View}
 use Rattle.ng_view.specs.declared.view.Start.{Start}
-use Rattle.ng_geometry.proofs.Bits.{cleared, raised}
-use Rattle.ng_geometry.proofs.Lists.{find_among, is_at-true}
-use Rattle.ng_moves.proofs.Moves.{Popping, Pushing, pops_may, pushes_may, stores_own_may}
+use Rattle.ng_rule.proofs.geometry.Bits.{cleared, raised}
+use Rattle.ng_rule.proofs.geometry.Lists.{find_among, is_at-true}
+use Rattle.ng_rule.proofs.hand.Moves.{Popping, Pushing, pops_may, pushes_may, stores_own_may}
 use Rattle.ng_space.specs.Callers.{Caller}
 use Rattle.ng_space.specs.Masks.{HasFree}
 use Rattle.ng_space.specs.Placed.{AreOnce, IsRead, times_at}

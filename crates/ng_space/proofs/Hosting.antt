@@ -11,7 +11,7 @@ use Rattle.ng_view.specs.declared.view.Excuse.{Excuse}
 use Rattle.ng_view.specs.declared.view.Held.{Held}
 use Rattle.ng_view.specs.declared.view.Nest.{Nest}
 use Rattle.ng_view.specs.declared.view.View.{View}
-use Rattle.ng_geometry.proofs.Lists.{total_by-append}
+use Rattle.ng_rule.proofs.geometry.Lists.{total_by-append}
 
 -- the lock's seat with these hands in it, the first taken in first
 abbrev pub hosted : View → List View → View

@@ -1,7 +1,7 @@
 -- What a hand knows of a block's frame stays known over loads, and over stores in the block's bytes.
 use Rattle.std.proofs.Common.{◌≡◌, ◌⊎◌, ℕ, ◌+◌, ◌-◌, ◌*◌, ◌/◌, ◌<◌, ◌≤◌, cond, Bool, true, false, List, ◌∷◌, refl, sym, ap, ◌∙◌, ⊎_elim, inl, inr, arith}
-use Rattle.ng_geometry.proofs.Lists.{find_edit}
-use Rattle.ng_moves.proofs.Load.{carries_more, still_knows}
+use Rattle.ng_rule.proofs.geometry.Lists.{find_edit}
+use Rattle.ng_rule.proofs.hand.Load.{carries_more, still_knows}
 use Rattle.ng_view.specs.Blocks.{Knows}
 use Rattle.ng_view.specs.Frame.{Frames, IsFramed, KnowsByte}
 use Rattle.ng_view.specs.Lists.{Among, find}

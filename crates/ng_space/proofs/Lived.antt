@@ -4,13 +4,13 @@ use Rattle.std.specs.Prelude.{Option, Some, None}
 use Rattle.atomic_table.specs.Seated.{TableId}
 use Rattle.atomic_table.specs.declared.shared.Seat.{Seat}
 use Rattle.ng_history.specs.Book as book
-use Rattle.ng_geometry.proofs.Lists.{among_append, among_without}
+use Rattle.ng_rule.proofs.geometry.Lists.{among_append, among_without}
 use Rattle.ng_view.specs.LockSteps.{carrier, moving, nest_of, outside, retired_nested, run_published}
 use Rattle.ng_view.specs.Lists.{Among, select, without}
 use Rattle.ng_view.specs.declared.view.Held.{Held}
 use Rattle.ng_view.specs.declared.view.Nest.{Nest}
 use Rattle.ng_view.specs.declared.view.View.{View}
-use Rattle.ng_lock_moves.specs.Groups.{MayPublish, Publishes, Retires, slot_published}
+use Rattle.ng_view.specs.Groups.{MayPublish, Publishes, Retires, slot_published}
 use Rattle.ng_space.specs.Seats.{IsLockSeat}
 use Rattle.ng_space.proofs.Locked.{lock_stays, still-fetched}
 

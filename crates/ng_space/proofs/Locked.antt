@@ -4,7 +4,7 @@ use Rattle.std.specs.Prelude.{None}
 use Rattle.atomic_table.specs.Seated.{TableId}
 use Rattle.atomic_table.specs.declared.shared.Seat.{Seat}
 use Rattle.ng_history.specs.Book as book
-use Rattle.ng_geometry.proofs.Lists.{among_without}
+use Rattle.ng_rule.proofs.geometry.Lists.{among_without}
 use Rattle.ng_view.specs.Lists.{Among, without}
 use Rattle.ng_view.specs.LockSteps.{let_go}
 use Rattle.ng_view.specs.Steps.{in_motion}

@@ -1,10 +1,10 @@
 -- What passes between the lock's seat and a hand.
 use Rattle.std.proofs.Common.{◌≡◌, ℕ, ◌≤◌, length, ◌/◌, eqb, cond, Bool, true, false, List, [], ◌∷◌, refl, sym, ap, ◌∙◌, subst, ⊎_elim, inl, inr, arith}
 use Rattle.std.specs.Prelude.{Option, Some, None}
-use Rattle.ng_geometry.proofs.Lists.{among_without, find_among}
-use Rattle.ng_moves.proofs.Cuts.{splits}
-use Rattle.ng_moves.proofs.Passing.{cut_excuse, cut_seat, cut_slot}
-use Rattle.ng_entry_moves.proofs.EnterMoves.{no_memory_may}
+use Rattle.ng_rule.proofs.geometry.Lists.{among_without, find_among}
+use Rattle.ng_rule.proofs.hand.Cuts.{splits}
+use Rattle.ng_rule.proofs.hand.Passing.{cut_excuse, cut_seat, cut_slot}
+use Rattle.ng_rule.proofs.entry.EnterMoves.{no_memory_may}
 use Rattle.ng_terms.specs.declared.entry.Entry.TheVariants.{NoMemory}
 use Rattle.ng_view.specs.Cuts.{Cut}
 use Rattle.ng_view.specs.Lists.{Among, find, without}

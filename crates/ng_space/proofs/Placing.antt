@@ -14,9 +14,9 @@ use Rattle.ng_view.specs.declared.view.Held.{Held}
 use Rattle.ng_view.specs.declared.view.View.{View}
 use Rattle.ng_view.specs.declared.view.Start.{Start}
 use Rattle.ng_space.specs.Placed.{LiesIn}
-use Rattle.ng_geometry.proofs.Facts.{held_slot, nested}
-use Rattle.ng_geometry.proofs.Nesting.{IsSlot, past_top}
-use Rattle.ng_geometry.proofs.Strides.{stride_whole, times_whole}
+use Rattle.ng_rule.proofs.geometry.Facts.{held_slot, nested}
+use Rattle.ng_rule.proofs.geometry.Nesting.{IsSlot, past_top}
+use Rattle.ng_rule.proofs.geometry.Strides.{stride_whole, times_whole}
 
 module _ (key : Start) (ws : List ℕ) (vs : List View) (id : ℕ) (v : View) (kept : Rule key ws vs) (here_v : get_elem? vs id ≡ some v) (h : Held) (s : Among h v.held) where
   abbrev g : Group

@@ -3,9 +3,9 @@ use Rattle.std.proofs.Common.{◌≡◌, ℕ, cond, [], ◌++◌, refl, sym, ap,
 use Rattle.std.specs.Prelude.{Option, Some}
 use Rattle.atomic_table.specs.Seated.{TableId}
 use Rattle.atomic_table.specs.declared.shared.Seat.{Seat}
-use Rattle.ng_geometry.proofs.Lists.{find_among}
-use Rattle.ng_moves.proofs.Cuts.{cut_parcel}
-use Rattle.ng_moves.proofs.Joins.{merge_parcel}
+use Rattle.ng_rule.proofs.geometry.Lists.{find_among}
+use Rattle.ng_rule.proofs.hand.Cuts.{cut_parcel}
+use Rattle.ng_rule.proofs.hand.Joins.{merge_parcel}
 use Rattle.ng_terms.specs.Heap.{extent}
 use Rattle.ng_view.specs.Cuts.{Cut, Merge}
 use Rattle.ng_view.specs.Lists.{find}

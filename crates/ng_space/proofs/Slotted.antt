@@ -8,10 +8,10 @@ use Rattle.ng_view.specs.Rule.{Rule}
 use Rattle.ng_view.specs.declared.view.Group.{Group}
 use Rattle.ng_view.specs.declared.view.Start.{Start}
 use Rattle.ng_view.specs.declared.view.View.{View}
-use Rattle.ng_geometry.proofs.Facts.{held_slot}
-use Rattle.ng_lock_moves.specs.Loads.{Loads, TellsGroups}
-use Rattle.ng_lock_moves.proofs.Facts.{listing}
-use Rattle.ng_lock_moves.proofs.Loading.{looks}
+use Rattle.ng_rule.proofs.geometry.Facts.{held_slot}
+use Rattle.ng_view.specs.Loads.{Loads, TellsGroups}
+use Rattle.ng_rule.proofs.lock.Facts.{listing}
+use Rattle.ng_rule.proofs.lock.Loading.{looks}
 use Rattle.ng_space.specs.Placed.{AreOfGroups}
 
 module _ (key : Start) (id : ℕ) (v : View) (leads : v.leads ≡ true) where

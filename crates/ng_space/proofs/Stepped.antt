@@ -4,7 +4,7 @@ use Rattle.std.specs.Prelude.{None}
 use Rattle.atomic_table.specs.Seated.{TableId}
 use Rattle.atomic_table.specs.declared.shared.Seat.{Seat}
 use Rattle.ng_history.specs.Book as book
-use Rattle.ng_geometry.proofs.Lists.{among_edit}
+use Rattle.ng_rule.proofs.geometry.Lists.{among_edit}
 use Rattle.ng_view.specs.Conditions.{Builds}
 use Rattle.ng_view.specs.LockSteps.{built, learnt_free, read_bits, ring_noted}
 use Rattle.ng_view.specs.Lists.{Among}
@@ -12,9 +12,9 @@ use Rattle.ng_view.specs.Steps.{read, stored, wrote}
 use Rattle.ng_view.specs.declared.view.Group.{Group}
 use Rattle.ng_view.specs.declared.view.Held.{Held}
 use Rattle.ng_view.specs.declared.view.View.{View}
-use Rattle.ng_lock_moves.specs.Loads.{Loads}
-use Rattle.ng_lock_moves.specs.Stores.{MayStore, Stores}
-use Rattle.ng_lock_moves.proofs.Deciding.{decide_builds, decide_mask}
+use Rattle.ng_view.specs.Loads.{Loads}
+use Rattle.ng_view.specs.Stores.{MayStore, Stores}
+use Rattle.ng_rule.proofs.lock.Deciding.{decide_builds, decide_mask}
 use Rattle.ng_space.specs.Seats.{IsLockSeat}
 use Rattle.ng_space.proofs.Locked.{IsAlike, lock_stays}
 
@@ -57,5 +57,5 @@ module _ (table : TableId) (s t : Seat (Unit {0}) View) (shelf : List book.Shown
         sent = refl;
         taken = refl;
         next = refl;
-        still = λ h q. ⊎_elim (λ (p : Among h v.held). inl p) (λ (e : h ≡ wrote a x c.slot). inr (subst (λ (y : Held). y.block ≡ None) (sym e) (is.moving c.slot (Rattle.ng_geometry.proofs.Lists.find_among m i v.held c.slot c.found).0))) (among_edit m i (wrote a x) v.held c.slot h c.found q);
+        still = λ h q. ⊎_elim (λ (p : Among h v.held). inl p) (λ (e : h ≡ wrote a x c.slot). inr (subst (λ (y : Held). y.block ≡ None) (sym e) (is.moving c.slot (Rattle.ng_rule.proofs.geometry.Lists.find_among m i v.held c.slot c.found).0))) (among_edit m i (wrote a x) v.held c.slot h c.found q);
       })

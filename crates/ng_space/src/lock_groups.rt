@@ -2,15 +2,14 @@
 ghost use Rattle.std.specs.Prelude.{◌≡◌, ◌+◌, ◌*◌, ◌/◌, ◌<◌, ◌≤◌};
 ghost use Rattle.ng_view.specs.May.{May};
 ghost use Rattle.ng_meta.specs.Place.{IsMetaPlace};
-ghost use Rattle.ng_lock_moves.specs.Groups.{HasAllSlots, MayPublish, Publishes, Retires};
+ghost use Rattle.ng_view.specs.Groups.{HasAllSlots, MayPublish, Publishes, Retires};
 
 use crate::lock::LockSeat;
-use crate::mask_step::AVAIL;
 use crate::name::Name;
 use crate::rule::Telling;
 use crate::space::Space;
 use atomic_table::Seat;
-use ng_meta::avail_word;
+use ng_meta::{AVAIL, avail_word};
 use ng_view::view::View;
 use std::marker::Brand;
 

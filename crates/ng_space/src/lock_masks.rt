@@ -2,13 +2,12 @@
 ghost use Rattle.std.specs.Prelude.{◌≡◌, ℕ, ◌%◌, ◌^◌};
 ghost use Rattle.ng_meta.specs.Place.{IsMetaPlace};
 ghost use Rattle.ng_view.specs.Lists.{Among};
-ghost use Rattle.ng_lock_moves.specs.Fetches.{ClearsFreed, EmptiesAvail, HasGroup, MayPutBack, PushesFreed, StocksAvail};
+ghost use Rattle.ng_view.specs.Fetches.{ClearsFreed, EmptiesAvail, HasGroup, MayPutBack, PushesFreed, StocksAvail};
 
 use crate::lock::LockSeat;
-use crate::mask_step::{AVAIL, FREED};
 use crate::name::Name;
 use crate::space::Space;
-use ng_meta::mask_of;
+use ng_meta::{AVAIL, FREED, mask_of};
 use std::marker::Brand;
 
 /// The upper half of a word, where an avail word has its tag.

@@ -3,15 +3,15 @@ ghost use Rattle.std.specs.Prelude.{◌≡◌, ℕ, ◌*◌, ◌/◌, ◌<◌};
 ghost use Rattle.ng_meta.specs.Place.{IsMetaPlace};
 ghost use Rattle.ng_view.specs.Conditions.{AreaBuilt};
 ghost use Rattle.ng_view.specs.May.{May};
-ghost use Rattle.ng_lock_moves.specs.Fetches.{HasGroup};
-ghost use Rattle.ng_lock_moves.specs.Notes.{IsNewRefusal, MayNoteRun, NotesArea, NotesRefusal, NotesRing, NotesRun, plain_run};
+ghost use Rattle.ng_view.specs.Fetches.{HasGroup};
+ghost use Rattle.ng_view.specs.Notes.{IsNewRefusal, MayNoteRun, NotesArea, NotesRefusal, NotesRing, NotesRun, plain_run};
 
 use crate::lock::LockSeat;
-use crate::mask_step::FREED;
 use crate::name::Name;
 use crate::rule::Telling;
 use crate::space::Space;
 use atomic_table::Seat;
+use ng_meta::FREED;
 use ng_view::view::View;
 use std::marker::Brand;
 

@@ -1,7 +1,7 @@
 // The loads of the lock's seat, and its stores in pages that it has.
 ghost use Rattle.std.specs.Prelude.{◌≡◌, ◌*◌, ◌%◌, ◌<◌};
-ghost use Rattle.ng_lock_moves.specs.Loads.{Loads, TellsGroups};
-ghost use Rattle.ng_lock_moves.specs.Stores.{MayStore, Stores};
+ghost use Rattle.ng_view.specs.Loads.{Loads, TellsGroups};
+ghost use Rattle.ng_view.specs.Stores.{MayStore, Stores};
 ghost use Rattle.ng_space.specs.Placed.{AreOfGroups};
 
 use crate::lock::LockSeat;

@@ -10,17 +10,8 @@ use crate::hand::Hand;
 use crate::name::Name;
 use crate::slot::Slot;
 use crate::space::Space;
-use ng_meta::mask_of;
+use ng_meta::{AVAIL, FLAGS, FREED, MEM, mask_of};
 use std::marker::Brand;
-
-// Where the parts of a meta are.
-pub(crate) const MEM: u64 = 16;
-
-pub(crate) const AVAIL: u64 = 24;
-
-pub(crate) const FREED: u64 = 28;
-
-pub(crate) const FLAGS: u64 = 32;
 
 impl<N: Name> Space<N> {
     /// Stores a number in one of the slot's own cells. In the cell before the slot's start, which is

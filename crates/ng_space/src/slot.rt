@@ -6,11 +6,8 @@ ghost use Rattle.ng_view.specs.declared.view.Place.{Place};
 
 use crate::name::Name;
 use ng_class::{room, slot_end, slot_start, stride};
-use ng_meta::fields_of;
+use ng_meta::{GROUP_HEAD, fields_of};
 use std::marker::{Model, PhantomData};
-
-/// The bytes of a group before its first slot.
-const GROUP_HEAD: u64 = 16;
 
 /// A slot in a hand, without a live block. It is spent by the call that it is moved into.
 pub struct Slot<N: Name> {

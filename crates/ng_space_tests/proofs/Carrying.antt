@@ -16,9 +16,9 @@ use Rattle.ng_view.specs.declared.view.Held.{Held}
 use Rattle.ng_view.specs.declared.view.Start.{Start}
 use Rattle.ng_view.specs.declared.view.View.{View}
 use Rattle.ng_meta.specs.Place.{IsMetaPlace}
-use Rattle.ng_lock_moves.specs.Groups.{BuildsNested, BuiltMeta, BuiltNested, IsLowHeader, Publishes, slot_published}
-use Rattle.ng_lock_moves.specs.Stores.{FitsMotion, IsInMotion, Stores}
-use Rattle.ng_lock_moves.proofs.Knowing.{off_else, sees-built, sees-built_else, still_known}
+use Rattle.ng_view.specs.Groups.{BuildsNested, BuiltMeta, BuiltNested, IsLowHeader, Publishes, slot_published}
+use Rattle.ng_view.specs.Stores.{FitsMotion, IsInMotion, Stores}
+use Rattle.ng_rule.proofs.lock.Knowing.{off_else, sees-built, sees-built_else, still_known}
 use Rattle.ng_space_tests.specs.Nests.{HasSlots, IsWritten, StandsNested, inner_group, outer_group, outer_slot}
 use Rattle.ng_space_tests.specs.Trials.{AreMetasBlank, Stands, area_run, trial_start, page_runs}
 use Rattle.ng_space_tests.proofs.Groups.{no-bits, outer-stride, outer-units}

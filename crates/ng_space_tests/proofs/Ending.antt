@@ -3,8 +3,8 @@ use Rattle.std.proofs.Common.{◌≡◌, ◌⊎◌, ℕ, zero, suc, ◌+◌, ◌
 use Rattle.std.specs.Prelude.{Some}
 use Rattle.std.proofs.lemmas.Bool.{cases_eq}
 use Rattle.std.proofs.lemmas.Bool.Decides.{nat_tests}
-use Rattle.ng_geometry.proofs.Lists.{is_at-here}
-use Rattle.ng_group_moves.proofs.Publish.{bit_zero}
+use Rattle.ng_rule.proofs.geometry.Lists.{is_at-here}
+use Rattle.ng_rule.proofs.group.Publish.{bit_zero}
 use Rattle.ng_view.specs.Conditions.{Builds, Sees}
 use Rattle.ng_view.specs.LockSteps.{carrier, groups_but, moving, nest_of, outside, without_nest}
 use Rattle.ng_view.specs.Lists.{Among, find, select}
@@ -13,8 +13,8 @@ use Rattle.ng_view.specs.declared.view.Group.{Group}
 use Rattle.ng_view.specs.declared.view.Held.{Held}
 use Rattle.ng_view.specs.declared.view.Nest.{Nest}
 use Rattle.ng_view.specs.declared.view.View.{View}
-use Rattle.ng_lock_moves.specs.Groups.{HasAllSlots, Retires}
-use Rattle.ng_lock_moves.specs.Loads.{Loads}
+use Rattle.ng_view.specs.Groups.{HasAllSlots, Retires}
+use Rattle.ng_view.specs.Loads.{Loads}
 use Rattle.ng_space_tests.specs.Nests.{StandsNested, beside, inner_group, outer_group}
 use Rattle.ng_space_tests.specs.Trials.{AreMetasBlank, BuildsAll, IsCleared, Stands, page_runs}
 use Rattle.ng_space_tests.proofs.Carrying.{builds-inner}

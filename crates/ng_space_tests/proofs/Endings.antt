@@ -9,11 +9,11 @@ use Rattle.ng_view.specs.declared.view.Group.{Group}
 use Rattle.ng_view.specs.declared.view.Layout.{Layout}
 use Rattle.ng_view.specs.declared.view.Run.{Run}
 use Rattle.ng_view.specs.declared.view.View.{View}
-use Rattle.ng_lock_moves.specs.Groups.{Retires}
-use Rattle.ng_lock_moves.specs.Loads.{Loads}
-use Rattle.ng_lock_moves.specs.Notes.{IsClearedRun, NotesRun, plain_run}
-use Rattle.ng_lock_moves.specs.Stores.{Stores}
-use Rattle.ng_lock_moves.proofs.Knowing.{off_else, sees-built, sees-built_else}
+use Rattle.ng_view.specs.Groups.{Retires}
+use Rattle.ng_view.specs.Loads.{Loads}
+use Rattle.ng_view.specs.Notes.{IsClearedRun, NotesRun, plain_run}
+use Rattle.ng_view.specs.Stores.{Stores}
+use Rattle.ng_rule.proofs.lock.Knowing.{off_else, sees-built, sees-built_else}
 use Rattle.ng_space_tests.specs.Trials.{AreMetasBlank, BuildsAll, IsCleared, Stands, area_run, page_runs}
 use Rattle.ng_space_tests.proofs.Trials.{builds-meta, builds-run}
 

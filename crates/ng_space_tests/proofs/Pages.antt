@@ -1,6 +1,6 @@
 -- A group of one page, as it is built.
 use Rattle.std.proofs.Common.{◌≡◌, ◌≢◌, ℕ, ◌+◌, ◌*◌, ◌%◌, ◌<◌, ◌≤◌, true, List, [], ◌∷◌, refl, sym, ap, subst, inl, inr, arith, mul-le-mul_left}
-use Rattle.ng_geometry.proofs.Strides.{stride_whole, times_whole}
+use Rattle.ng_rule.proofs.geometry.Strides.{stride_whole, times_whole}
 use Rattle.ng_view.specs.Conditions.{Built, Sees}
 use Rattle.ng_view.specs.LockSteps.{built, cells_off, run_published}
 use Rattle.ng_view.specs.Lists.{Among}
@@ -9,10 +9,10 @@ use Rattle.ng_view.specs.declared.view.Group.{Group}
 use Rattle.ng_view.specs.declared.view.View.{View}
 use Rattle.ng_view.specs.declared.view.Start.{Start}
 use Rattle.ng_meta.specs.Place.{IsMetaPlace}
-use Rattle.ng_lock_moves.specs.Groups.{BuildsRun, Publishes}
-use Rattle.ng_lock_moves.specs.Notes.{NotesRun, plain_run}
-use Rattle.ng_lock_moves.specs.Stores.{Stores}
-use Rattle.ng_lock_moves.proofs.Knowing.{off_else, sees-built, sees-built_else, sees-run_else}
+use Rattle.ng_view.specs.Groups.{BuildsRun, Publishes}
+use Rattle.ng_view.specs.Notes.{NotesRun, plain_run}
+use Rattle.ng_view.specs.Stores.{Stores}
+use Rattle.ng_rule.proofs.lock.Knowing.{off_else, sees-built, sees-built_else, sees-run_else}
 use Rattle.ng_space_tests.specs.Trials.{AreMetasBlank, FillsPage, IsBuilt, Stands, area_run, page_group, page_runs, trial_start}
 use Rattle.ng_space_tests.proofs.Trials.{IsZeroPage, stands-run, store_in, store_meta, zero-run}
 

@@ -2,7 +2,7 @@
 use Rattle.std.proofs.Common.{◌≡◌, ℕ, zero, suc, ◌+◌, ◌*◌, ◌≤◌, eqb, cond, Bool, true, false, List, [], ◌∷◌, ◌++◌, map, refl, sym, ap, ◌∙◌, subst, ⊎_elim, inl, arith}
 use Rattle.std.specs.Int.{bit_at}
 use Rattle.std.specs.Prelude.{◌&&◌, Some}
-use Rattle.ng_geometry.proofs.Lists.{find_among}
+use Rattle.ng_rule.proofs.geometry.Lists.{find_among}
 use Rattle.ng_view.specs.Conditions.{IsBlanked, IsSettled, IsUnborn}
 use Rattle.ng_view.specs.LockSteps.{avail_emptied, freed_taken, moving}
 use Rattle.ng_view.specs.Lists.{Among, find, is_at, select}
@@ -11,8 +11,8 @@ use Rattle.ng_view.specs.declared.view.Group.{Group}
 use Rattle.ng_view.specs.declared.view.Held.{Held}
 use Rattle.ng_view.specs.declared.view.Run.{Run}
 use Rattle.ng_view.specs.declared.view.View.{View}
-use Rattle.ng_lock_moves.specs.Fetches.{ClearsFreed, EmptiesAvail, HasGroup}
-use Rattle.ng_lock_moves.specs.Groups.{HasAllSlots}
+use Rattle.ng_view.specs.Fetches.{ClearsFreed, EmptiesAvail, HasGroup}
+use Rattle.ng_view.specs.Groups.{HasAllSlots}
 use Rattle.ng_mask.specs.Fetches.{Captures}
 use Rattle.ng_space.specs.Callers.{Caller}
 use Rattle.ng_space.specs.Passed.{with_slot}

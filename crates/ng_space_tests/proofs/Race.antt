@@ -6,7 +6,7 @@ use Rattle.std.specs.Int.{bit_at}
 use Rattle.std.proofs.lemmas.Bool.{cases_lt}
 use Rattle.std.proofs.lemmas.Nat.{one_shl, pow_pos}
 use Rattle.std.proofs.lemmas.Nat.Bits.{bit_at-zero}
-use Rattle.ng_geometry.proofs.Lists.{is_at-here}
+use Rattle.ng_rule.proofs.geometry.Lists.{is_at-here}
 use Rattle.ng_view.specs.Conditions.{IsBlanked, IsSettled, Sees}
 use Rattle.ng_view.specs.Lists.{Among, find}
 use Rattle.ng_view.specs.LockSteps.{AreOut, bits_of, let_go}
@@ -15,8 +15,8 @@ use Rattle.ng_view.specs.declared.view.Held.{Held}
 use Rattle.ng_view.specs.declared.view.Layout.{Layout}
 use Rattle.ng_view.specs.declared.view.Run.{Run}
 use Rattle.ng_view.specs.declared.view.View.{View}
-use Rattle.ng_lock_moves.specs.Notes.{plain_run}
-use Rattle.ng_lock_moves.specs.Fetches.{HasGroup, MayPutBack, PushesFreed}
+use Rattle.ng_view.specs.Notes.{plain_run}
+use Rattle.ng_view.specs.Fetches.{HasGroup, MayPutBack, PushesFreed}
 use Rattle.ng_space_tests.specs.Trials.{IsBuilt, area_run}
 use Rattle.ng_space.specs.Passed.{with_slot}
 use Rattle.ng_space.specs.Callers.{Caller}

@@ -8,9 +8,9 @@ use Rattle.ng_view.specs.Steps.{read}
 use Rattle.ng_view.specs.declared.view.Group.{Group}
 use Rattle.ng_view.specs.declared.view.Run.{Run}
 use Rattle.ng_view.specs.declared.view.View.{View}
-use Rattle.ng_lock_moves.specs.Notes.{IsNewRun, NotesArea, NotesRun, plain_run}
-use Rattle.ng_lock_moves.specs.Stores.{Stores}
-use Rattle.ng_lock_moves.proofs.Knowing.{off_else, sees-built, sees-built_else, sees-run}
+use Rattle.ng_view.specs.Notes.{IsNewRun, NotesArea, NotesRun, plain_run}
+use Rattle.ng_view.specs.Stores.{Stores}
+use Rattle.ng_rule.proofs.lock.Knowing.{off_else, sees-built, sees-built_else, sees-run}
 use Rattle.ng_space_tests.specs.Trials.{AreMetasBlank, Stands, area_run, trial_start}
 
 pub stands-built : (v w : View) (rs : List Run) (gs : List Group) (a x : ℕ) → Stands v rs gs → w ≡ built v a x → Stands w rs gs

@@ -4,8 +4,8 @@ use Rattle.std.specs.Prelude.{Some, nat_lt}
 use Rattle.std.proofs.lemmas.Bool.{agree_below_at, cases_lt, ltb-true}
 use Rattle.ng_class.specs.Class as class
 use Rattle.ng_class.specs.Class.{units_of}
-use Rattle.ng_geometry.proofs.Lists.{find_edit}
-use Rattle.ng_moves.proofs.Load.{still_knows}
+use Rattle.ng_rule.proofs.geometry.Lists.{find_edit}
+use Rattle.ng_rule.proofs.hand.Load.{still_knows}
 use Rattle.ng_view.specs.Blocks.{Knows}
 use Rattle.ng_view.specs.Frame.{IsTrailer, KnowsByte}
 use Rattle.ng_view.specs.Lists.{find}

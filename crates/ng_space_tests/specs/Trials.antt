@@ -11,8 +11,8 @@ use Rattle.ng_view.specs.declared.view.Held.{Held}
 use Rattle.ng_view.specs.declared.view.Run.{Run}
 use Rattle.ng_view.specs.declared.view.View.{View}
 use Rattle.ng_view.specs.declared.view.Start.{Start}
-use Rattle.ng_lock_moves.specs.Groups.{AreMasks}
-use Rattle.ng_lock_moves.specs.Notes.{plain_run}
+use Rattle.ng_view.specs.Groups.{AreMasks}
+use Rattle.ng_view.specs.Notes.{plain_run}
 
 abbrev pub trial_start : Start
 trial_start = record { pages = 16; lower = 4096; upper = 65536; secret = 81985529216486895; refusals = 0; cap = 0 }

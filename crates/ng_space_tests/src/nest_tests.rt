@@ -1,6 +1,6 @@
 // A group of five slots, and one of fifteen in the first of them, come to live and end.
 ghost use Rattle.std.specs.Prelude.{◌≡◌, ◌∷◌, []};
-ghost use Rattle.ng_lock_moves.specs.Groups.{HasAllSlots};
+ghost use Rattle.ng_view.specs.Groups.{HasAllSlots};
 ghost use Rattle.ng_space_tests.specs.Nests.{HasSlots, IsWritten, StandsNested, outer_group};
 ghost use Rattle.ng_space_tests.specs.Trials.{AreMetasBlank, Stands, page_runs, trial_start};
 

@@ -1,6 +1,6 @@
 // An area, and a group that begins the page behind it, as each test makes and ends them.
 ghost use Rattle.std.specs.Prelude.{◌≡◌, ◌+◌, ◌*◌, ◌%◌, ◌≤◌, ◌∷◌, []};
-ghost use Rattle.ng_lock_moves.specs.Groups.{HasAllSlots};
+ghost use Rattle.ng_view.specs.Groups.{HasAllSlots};
 ghost use Rattle.ng_space_tests.specs.Trials.{AreMetasBlank, BuildsAll, FillsPage, IsBuilt, IsCleared, Stands, StandsAlone, area_run, page_group, trial_start};
 
 use ng_space::{LockSeat, Name, Space, Start};

@@ -2,7 +2,7 @@
 ghost use Rattle.std.specs.Prelude.{◌≡◌, ◌≤◌, ◌∷◌, [], Some};
 ghost use Rattle.ng_view.specs.Lists.{find};
 ghost use Rattle.ng_view.specs.Steps.{in_motion};
-ghost use Rattle.ng_lock_moves.specs.Groups.{HasAllSlots};
+ghost use Rattle.ng_view.specs.Groups.{HasAllSlots};
 ghost use Rattle.ng_space.specs.Blocks.{OfSlot, Serves};
 ghost use Rattle.ng_space.specs.Tests.{HasEntered};
 ghost use Rattle.ng_space.specs.Tokens.{HasSlot, Token};

@@ -14,8 +14,8 @@ use Rattle.ng_view.specs.declared.view.Layout.{Layout}
 use Rattle.ng_view.specs.declared.view.Run.{Run}
 use Rattle.ng_view.specs.declared.view.Start.{Start}
 use Rattle.ng_view.specs.declared.view.View.{View}
-use Rattle.ng_lock_moves.specs.Notes.{IsClearedRun, IsNewRun, plain_run}
-use Rattle.ng_lock_moves.proofs.Knowing.{sees-run_else}
+use Rattle.ng_view.specs.Notes.{IsClearedRun, IsNewRun, plain_run}
+use Rattle.ng_rule.proofs.lock.Knowing.{sees-run_else}
 use Rattle.ng_build.specs.Areas.{AreMetasZero, with_area, with_runs}
 use Rattle.ng_build.specs.Cells.{KeepsOutside, OnlyCells, knowing}
 use Rattle.ng_ledger.specs.Metas.{AreFree, IsBlankMeta}

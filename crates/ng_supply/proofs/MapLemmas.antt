@@ -6,8 +6,8 @@ use Rattle.ng_mapper.specs.declared.refusals.Refusals.{Refusals}
 use Rattle.ng_view.specs.Conditions.{Sees}
 use Rattle.ng_view.specs.declared.view.Start.{Start}
 use Rattle.ng_view.specs.declared.view.View.{View}
-use Rattle.ng_lock_moves.specs.Notes.{IsNewRun, NotesRun}
-use Rattle.ng_lock_moves.proofs.Knowing.{sees-run}
+use Rattle.ng_view.specs.Notes.{IsNewRun, NotesRun}
+use Rattle.ng_rule.proofs.lock.Knowing.{sees-run}
 use Rattle.ng_ledger.specs.Runs.{AreMapped}
 use Rattle.ng_ledger.proofs.RunLemmas.{mapped_new, new_run}
 use Rattle.ng_supply.specs.Runs.{IsHeapMapper, IsInSpace, MapsRun}

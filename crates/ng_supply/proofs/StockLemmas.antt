@@ -11,7 +11,7 @@ use Rattle.ng_view.specs.LockSteps.{runs_but}
 use Rattle.ng_view.specs.declared.view.Run.{Run}
 use Rattle.ng_view.specs.declared.view.Start.{Start}
 use Rattle.ng_view.specs.declared.view.View.{View}
-use Rattle.ng_lock_moves.specs.Notes.{plain_run}
+use Rattle.ng_view.specs.Notes.{plain_run}
 use Rattle.ng_build.specs.Areas.{with_runs}
 use Rattle.ng_build.specs.Cells.{OnlyCells}
 use Rattle.ng_ledger.specs.Metas.{IsInHand}

@@ -6,7 +6,7 @@ use Rattle.ng_view.specs.Layouts.{IsAreaAt}
 use Rattle.ng_view.specs.declared.view.Run.{Run}
 use Rattle.ng_view.specs.declared.view.Start.{Start}
 use Rattle.ng_view.specs.declared.view.View.{View}
-use Rattle.ng_lock_moves.specs.Notes.{IsNewRun}
+use Rattle.ng_view.specs.Notes.{IsNewRun}
 use Rattle.ng_build.specs.Areas.{with_runs}
 use Rattle.ng_build.specs.Cells.{KeepsOutside, OnlyCells}
 use Rattle.ng_ledger.specs.Metas.{AreFree, AreOfAreas, IsBlankMeta, IsFreeMeta, IsInHand}

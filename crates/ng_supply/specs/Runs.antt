@@ -6,7 +6,7 @@ use Rattle.ng_mapper.specs.Runs as mapper
 use Rattle.ng_mapper.specs.declared.refusals.Refusals.{Refusals}
 use Rattle.ng_view.specs.declared.view.Start.{Start}
 use Rattle.ng_view.specs.declared.view.View.{View}
-use Rattle.ng_lock_moves.specs.Notes.{IsNewRun, NotesRefusal, NotesRun}
+use Rattle.ng_view.specs.Notes.{IsNewRun, NotesRefusal, NotesRun}
 use Rattle.ng_build.specs.Cells.{AreZero}
 use Rattle.ng_ledger.specs.Runs.{AreMapped}
 

@@ -20,3 +20,9 @@ pub mod May
 pub mod Conditions
 pub mod Frame
 pub mod Tells
+pub mod Masks
+pub mod Fetches
+pub mod Stores
+pub mod Loads
+pub mod Groups
+pub mod Notes

@@ -1,5 +1,5 @@
 use Rattle.std.proofs.Common.{sym, subst, inr}
-use Rattle.ng_lock_moves.specs.Groups.{MayPublish, Publishes}
+use Rattle.ng_view.specs.Groups.{MayPublish, Publishes}
 use Rattle.ng_build.specs.Drafts.{draft_group}
 use Rattle.ng_build.proofs.Heads.{carrier_after}
 use Rattle.ng_build.proofs.Nestings.{nested_idle, slot_builds, slot_publishes}

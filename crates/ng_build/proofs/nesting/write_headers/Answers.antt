@@ -1,5 +1,5 @@
 use Rattle.std.proofs.Common.{ℕ, ◌+◌, ◌*◌, inr, sym, subst, arith}
-use Rattle.ng_lock_moves.specs.Stores.{MayStore, Stores}
+use Rattle.ng_view.specs.Stores.{MayStore, Stores}
 use Rattle.ng_build.proofs.Heads.{carrier_at, headers_fit, headers_low, next_fits, no_headers, one_header, step_is}
 use Rattle.ng_build.proofs.nesting.write_headers.Goals as goal
 

@@ -1,5 +1,5 @@
 use Rattle.std.proofs.Common.{sym, subst, inl, refl, arith}
-use Rattle.ng_lock_moves.specs.Groups.{MayPublish, Publishes}
+use Rattle.ng_view.specs.Groups.{MayPublish, Publishes}
 use Rattle.ng_build.proofs.Areas.{run_cell, run_head}
 use Rattle.ng_build.proofs.Runs.{idle_2, run_1, run_builds, run_publishes}
 use Rattle.ng_build.proofs.run.publish_run.Goals as goal

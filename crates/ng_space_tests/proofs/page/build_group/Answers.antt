@@ -1,6 +1,6 @@
 use Rattle.std.proofs.Common.{[], ◌∷◌, true, refl, sym, subst, inl, inr, arith}
 use Rattle.ng_view.specs.declared.view.Start.{Start}
-use Rattle.ng_lock_moves.specs.Notes.{MayNoteRun}
+use Rattle.ng_view.specs.Notes.{MayNoteRun}
 use Rattle.ng_space_tests.specs.Trials.{area_run, page_runs}
 use Rattle.ng_space_tests.proofs.Trials.{builds-meta, builds-run, new_run}
 use Rattle.ng_space_tests.proofs.Pages.{page_0, page_1, page_2, page_builds, page_built, page_place}

@@ -1,7 +1,7 @@
 use Rattle.std.proofs.Common.{[], true, refl, sym, subst, inl, arith}
 use Rattle.ng_view.specs.Conditions.{AreaBuilt}
 use Rattle.ng_view.specs.declared.view.Start.{Start}
-use Rattle.ng_lock_moves.specs.Notes.{MayNoteRun, plain_run}
+use Rattle.ng_view.specs.Notes.{MayNoteRun, plain_run}
 use Rattle.ng_space_tests.proofs.Trials.{area_0, area_1, area_2, area_built, area_metas, area_stands, builds-run, new_area}
 use Rattle.ng_space_tests.proofs.page.make_area.Goals as goal
 

@@ -1,5 +1,5 @@
 use Rattle.std.proofs.Common.{ap, subst, sym, ◌∙◌, ◌≡◌}
-use Rattle.ng_lock_moves.specs.Groups.{Retires}
+use Rattle.ng_view.specs.Groups.{Retires}
 use Rattle.ng_view.specs.LockSteps.{groups_but}
 use Rattle.ng_view.specs.declared.view.View.{View}
 use Rattle.ng_ledger.specs.Usage.{AreUsed}

@@ -2,7 +2,7 @@ use Rattle.std.proofs.Common.{subst, sym, ◌∙◌, ap, List, ℕ, ◌∷◌, [
 use Rattle.std.proofs.lemmas.List.{length-replicate}
 use Rattle.ng_view.specs.Rule.{Rule}
 use Rattle.ng_view.specs.Steps.{opener}
-use Rattle.ng_moves.proofs.Open.{opens}
+use Rattle.ng_rule.proofs.hand.Open.{opens}
 use Rattle.ng_space.specs.Blanks.{fresh_books, rooms_of}
 use Rattle.ng_space.proofs.Books.{rooms_of-fresh, length-fresh}
 use Rattle.ng_space.proofs.blank.Blank.new.Goals as goal

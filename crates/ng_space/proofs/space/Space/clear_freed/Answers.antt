@@ -1,7 +1,7 @@
 use Rattle.std.proofs.Common.{sym, subst, arith}
 use Rattle.ng_view.specs.declared.view.View.{View}
-use Rattle.ng_lock_moves.specs.Fetches.{HasGroup}
-use Rattle.ng_lock_moves.proofs.Fetching.{clears}
+use Rattle.ng_view.specs.Fetches.{HasGroup}
+use Rattle.ng_rule.proofs.lock.Fetching.{clears}
 use Rattle.ng_space.proofs.Fetched.{clears_stays}
 use Rattle.ng_space.proofs.space.Space.clear_freed.Goals as goal
 

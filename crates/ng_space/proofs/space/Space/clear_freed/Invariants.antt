@@ -1,4 +1,4 @@
-use Rattle.ng_lock_moves.specs.Fetches.{ClearsFreed}
+use Rattle.ng_view.specs.Fetches.{ClearsFreed}
 use Rattle.ng_space.proofs.space.Space.clear_freed.Given as goal
 
 abbrev pub ghosts-and_told : goal.ghosts-and_told

@@ -1,7 +1,7 @@
 use Rattle.std.proofs.Common.{sym, subst}
 use Rattle.ng_view.specs.declared.view.View.{View}
-use Rattle.ng_lock_moves.specs.Fetches.{EmptiesAvail, HasGroup}
-use Rattle.ng_lock_moves.proofs.Fetching.{empties}
+use Rattle.ng_view.specs.Fetches.{EmptiesAvail, HasGroup}
+use Rattle.ng_rule.proofs.lock.Fetching.{empties}
 use Rattle.ng_space.proofs.Fetched.{empties_stays}
 use Rattle.ng_space.proofs.space.Space.empty_avail.Goals as goal
 

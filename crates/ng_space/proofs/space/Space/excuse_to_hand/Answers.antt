@@ -1,6 +1,6 @@
 use Rattle.std.proofs.Common.{ap, sym, subst, refl, inl}
 use Rattle.std.specs.Prelude.{Option}
-use Rattle.ng_moves.proofs.Passing.{merge_hand}
+use Rattle.ng_rule.proofs.hand.Passing.{merge_hand}
 use Rattle.ng_view.specs.Lists.{Among}
 use Rattle.ng_view.specs.Steps.{with_excuse}
 use Rattle.ng_view.specs.declared.view.Excuse.{Excuse}

@@ -1,6 +1,6 @@
 use Rattle.std.proofs.Common.{subst}
 use Rattle.ng_view.specs.declared.view.View.{View}
-use Rattle.ng_lock_moves.specs.Loads.{TellsGroups}
+use Rattle.ng_view.specs.Loads.{TellsGroups}
 use Rattle.ng_space.specs.Placed.{AreOfGroups}
 use Rattle.ng_space.proofs.Slotted.{looks_slots}
 use Rattle.ng_space.proofs.Stepped.{looks_stays}

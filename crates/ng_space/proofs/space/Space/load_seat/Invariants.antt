@@ -1,4 +1,4 @@
-use Rattle.ng_lock_moves.specs.Loads.{Loads, TellsGroups}
+use Rattle.ng_view.specs.Loads.{Loads, TellsGroups}
 use Rattle.ng_space.specs.Placed.{AreOfGroups}
 use Rattle.ng_space.proofs.space.Space.load_seat.Given as goal
 

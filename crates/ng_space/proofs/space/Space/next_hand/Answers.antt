@@ -1,4 +1,4 @@
-use Rattle.ng_moves.proofs.Open.{hands_out}
+use Rattle.ng_rule.proofs.hand.Open.{hands_out}
 use Rattle.ng_space.proofs.space.Space.next_hand.Goals as goal
 
 pub split_off-seat-requires-clause-allowed : goal.split_off-seat-requires-clause-allowed

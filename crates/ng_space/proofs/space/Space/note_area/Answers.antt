@@ -1,8 +1,8 @@
 use Rattle.std.proofs.Common.{sym, subst}
 use Rattle.ng_view.specs.Conditions.{AreaBuilt}
 use Rattle.ng_view.specs.declared.view.View.{View}
-use Rattle.ng_lock_moves.specs.Notes.{plain_run}
-use Rattle.ng_lock_moves.proofs.Noting.{notes_area}
+use Rattle.ng_view.specs.Notes.{plain_run}
+use Rattle.ng_rule.proofs.lock.Noting.{notes_area}
 use Rattle.ng_space.proofs.Annotated.{area_stays}
 use Rattle.ng_space.proofs.space.Space.note_area.Goals as goal
 

@@ -1,7 +1,7 @@
 use Rattle.std.proofs.Common.{sym, subst, arith}
 use Rattle.ng_view.specs.declared.view.View.{View}
-use Rattle.ng_lock_moves.specs.Notes.{IsNewRefusal}
-use Rattle.ng_lock_moves.proofs.Noting.{notes_refusal}
+use Rattle.ng_view.specs.Notes.{IsNewRefusal}
+use Rattle.ng_rule.proofs.lock.Noting.{notes_refusal}
 use Rattle.ng_space.proofs.Annotated.{refusal_stays}
 use Rattle.ng_space.proofs.space.Space.note_refusal.Goals as goal
 

@@ -1,4 +1,4 @@
-use Rattle.ng_lock_moves.specs.Notes.{NotesRefusal}
+use Rattle.ng_view.specs.Notes.{NotesRefusal}
 use Rattle.ng_space.proofs.space.Space.note_refusal.Given as goal
 
 abbrev pub ghosts-note_told : goal.ghosts-note_told

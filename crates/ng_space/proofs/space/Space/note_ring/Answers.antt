@@ -1,7 +1,7 @@
 use Rattle.std.proofs.Common.{sym, subst, arith}
 use Rattle.ng_view.specs.declared.view.View.{View}
-use Rattle.ng_lock_moves.specs.Fetches.{HasGroup}
-use Rattle.ng_lock_moves.proofs.Noting.{notes_ring}
+use Rattle.ng_view.specs.Fetches.{HasGroup}
+use Rattle.ng_rule.proofs.lock.Noting.{notes_ring}
 use Rattle.ng_space.proofs.Annotated.{ring_stays}
 use Rattle.ng_space.proofs.space.Space.note_ring.Goals as goal
 

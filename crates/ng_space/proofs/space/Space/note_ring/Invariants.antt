@@ -1,4 +1,4 @@
-use Rattle.ng_lock_moves.specs.Notes.{NotesRing}
+use Rattle.ng_view.specs.Notes.{NotesRing}
 use Rattle.ng_space.proofs.space.Space.note_ring.Given as goal
 
 abbrev pub ghosts-ring_told : goal.ghosts-ring_told

@@ -1,7 +1,7 @@
 use Rattle.std.proofs.Common.{sym, subst}
 use Rattle.ng_view.specs.declared.view.View.{View}
-use Rattle.ng_lock_moves.specs.Notes.{MayNoteRun}
-use Rattle.ng_lock_moves.proofs.Noting.{notes_run}
+use Rattle.ng_view.specs.Notes.{MayNoteRun}
+use Rattle.ng_rule.proofs.lock.Noting.{notes_run}
 use Rattle.ng_space.proofs.Annotated.{run_stays}
 use Rattle.ng_space.proofs.space.Space.note_run.Goals as goal
 

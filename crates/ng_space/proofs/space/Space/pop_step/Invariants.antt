@@ -1,4 +1,4 @@
-use Rattle.ng_moves.proofs.Moves.{Popping}
+use Rattle.ng_rule.proofs.hand.Moves.{Popping}
 use Rattle.ng_space.proofs.space.Space.pop_step.Given as goal
 
 abbrev pub ghosts-exchange_told : goal.ghosts-exchange_told

@@ -1,8 +1,8 @@
 use Rattle.std.proofs.Common.{◌≡◌, ℕ, ◌+◌, ◌*◌, ◌/◌, sym, subst, arith}
 use Rattle.ng_view.specs.May.{May}
 use Rattle.ng_view.specs.declared.view.View.{View}
-use Rattle.ng_lock_moves.specs.Groups.{MayPublish, Publishes}
-use Rattle.ng_lock_moves.proofs.Publishing.{publishes}
+use Rattle.ng_view.specs.Groups.{MayPublish, Publishes}
+use Rattle.ng_rule.proofs.lock.Publishing.{publishes}
 use Rattle.ng_space.proofs.Lived.{publishes_stays}
 use Rattle.ng_space.proofs.space.Space.publish.Goals as goal
 

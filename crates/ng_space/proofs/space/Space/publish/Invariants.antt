@@ -1,4 +1,4 @@
-use Rattle.ng_lock_moves.specs.Groups.{Publishes}
+use Rattle.ng_view.specs.Groups.{Publishes}
 use Rattle.ng_space.proofs.space.Space.publish.Given as goal
 
 abbrev pub ghosts-publish_told : goal.ghosts-publish_told

@@ -1,7 +1,7 @@
 use Rattle.std.proofs.Common.{sym, subst, arith}
 use Rattle.ng_view.specs.declared.view.View.{View}
-use Rattle.ng_lock_moves.specs.Fetches.{MayPutBack}
-use Rattle.ng_lock_moves.proofs.Fetching.{pushes_back}
+use Rattle.ng_view.specs.Fetches.{MayPutBack}
+use Rattle.ng_rule.proofs.lock.Fetching.{pushes_back}
 use Rattle.ng_space.proofs.Fetched.{pushes_stays}
 use Rattle.ng_space.proofs.space.Space.push_parent.Goals as goal
 

@@ -1,4 +1,4 @@
-use Rattle.ng_lock_moves.specs.Fetches.{PushesFreed}
+use Rattle.ng_view.specs.Fetches.{PushesFreed}
 use Rattle.ng_space.proofs.space.Space.push_parent.Given as goal
 
 abbrev pub ghosts-or_told : goal.ghosts-or_told

@@ -1,4 +1,4 @@
-use Rattle.ng_moves.proofs.Moves.{Pushing}
+use Rattle.ng_rule.proofs.hand.Moves.{Pushing}
 use Rattle.ng_space.proofs.space.Space.push_step.Given as goal
 
 abbrev pub ghosts-exchange_told : goal.ghosts-exchange_told

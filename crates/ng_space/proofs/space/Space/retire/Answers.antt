@@ -1,7 +1,7 @@
 use Rattle.std.proofs.Common.{sym, subst}
 use Rattle.ng_view.specs.declared.view.View.{View}
-use Rattle.ng_lock_moves.specs.Groups.{HasAllSlots}
-use Rattle.ng_lock_moves.proofs.Retiring.{retires}
+use Rattle.ng_view.specs.Groups.{HasAllSlots}
+use Rattle.ng_rule.proofs.lock.Retiring.{retires}
 use Rattle.ng_space.proofs.Lived.{retires_stays}
 use Rattle.ng_space.proofs.space.Space.retire.Goals as goal
 

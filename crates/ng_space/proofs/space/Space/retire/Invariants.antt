@@ -1,4 +1,4 @@
-use Rattle.ng_lock_moves.specs.Groups.{Retires}
+use Rattle.ng_view.specs.Groups.{Retires}
 use Rattle.ng_space.proofs.space.Space.retire.Given as goal
 
 abbrev pub ghosts-store_told : goal.ghosts-store_told

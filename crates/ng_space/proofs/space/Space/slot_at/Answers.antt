@@ -3,7 +3,7 @@ use Rattle.ng_view.specs.Lists.{find}
 use Rattle.ng_view.specs.Steps.{learnt, loaded}
 use Rattle.ng_view.specs.Tells.{Tells}
 use Rattle.ng_view.specs.declared.view.View.{View}
-use Rattle.ng_geometry.proofs.Lists.{find_among}
+use Rattle.ng_rule.proofs.geometry.Lists.{find_among}
 use Rattle.ng_space.specs.Placed.{AreOnce, IsRead}
 use Rattle.ng_space.proofs.Holding.{find-loaded, once_loaded, read_of}
 use Rattle.ng_space.proofs.space.Space.slot_at.Given.{Over}

@@ -1,5 +1,5 @@
 use Rattle.std.proofs.Common.{ap, sym, subst, refl}
-use Rattle.ng_moves.proofs.Passing.{merge_hand}
+use Rattle.ng_rule.proofs.hand.Passing.{merge_hand}
 use Rattle.ng_view.specs.declared.view.View.{View}
 use Rattle.ng_space.specs.Masks.{HasFree}
 use Rattle.ng_space.specs.Passed.{HasInMotion}

@@ -1,5 +1,5 @@
 use Rattle.std.proofs.Common.{ap}
-use Rattle.ng_moves.proofs.Passing.{merge_hand}
+use Rattle.ng_rule.proofs.hand.Passing.{merge_hand}
 use Rattle.ng_view.specs.Lists.{find}
 use Rattle.ng_view.specs.declared.view.Desk.{Desk}
 use Rattle.ng_space.specs.Callers.{Caller}

@@ -1,8 +1,8 @@
 use Rattle.std.proofs.Common.{sym, subst, arith}
 use Rattle.ng_view.specs.Lists.{Among}
 use Rattle.ng_view.specs.declared.view.View.{View}
-use Rattle.ng_lock_moves.specs.Fetches.{MayPutBack, StocksAvail}
-use Rattle.ng_lock_moves.proofs.Fetching.{stocks}
+use Rattle.ng_view.specs.Fetches.{MayPutBack, StocksAvail}
+use Rattle.ng_rule.proofs.lock.Fetching.{stocks}
 use Rattle.ng_space.proofs.Fetched.{stocks_stays}
 use Rattle.ng_space.proofs.space.Space.stock_avail.Goals as goal
 

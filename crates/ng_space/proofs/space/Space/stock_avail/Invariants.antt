@@ -1,4 +1,4 @@
-use Rattle.ng_lock_moves.specs.Fetches.{StocksAvail}
+use Rattle.ng_view.specs.Fetches.{StocksAvail}
 use Rattle.ng_space.proofs.space.Space.stock_avail.Given as goal
 
 abbrev pub ghosts-or_told : goal.ghosts-or_told

@@ -1,7 +1,7 @@
 use Rattle.std.proofs.Common.{sym, subst, arith}
 use Rattle.ng_view.specs.declared.view.View.{View}
-use Rattle.ng_lock_moves.specs.Stores.{MayStore}
-use Rattle.ng_lock_moves.proofs.Storing.{stores}
+use Rattle.ng_view.specs.Stores.{MayStore}
+use Rattle.ng_rule.proofs.lock.Storing.{stores}
 use Rattle.ng_space.proofs.Stepped.{stores_stays}
 use Rattle.ng_space.proofs.space.Space.store_page.Goals as goal
 

@@ -1,4 +1,4 @@
-use Rattle.ng_lock_moves.specs.Stores.{Stores}
+use Rattle.ng_view.specs.Stores.{Stores}
 use Rattle.ng_space.proofs.space.Space.store_page.Given as goal
 
 abbrev pub ghosts-store_told : goal.ghosts-store_told

@@ -1,4 +1,4 @@
-use Rattle.ng_moves.proofs.Passing.{merge_hand}
+use Rattle.ng_rule.proofs.hand.Passing.{merge_hand}
 use Rattle.ng_space.proofs.space.Space.take_hand.Goals as goal
 
 pub take_in-requires-clause-allowed : goal.take_in-requires-clause-allowed
