@@ -48,8 +48,8 @@ pub fn begin<N: Name, P: Rules + Drop>(
     mapper: FirstFit,
     rules: P,
 ) -> Result<(Space<N>, Core<N, FirstFit, P>, Vec<Hand<N>>), Host>
-    requires table { blank.table ≡ N.table }
-    requires start { blank.start ≡ N.start }
+    requires table { blank.table ≡ N.facts.table }
+    requires start { blank.start ≡ N.facts.start }
     requires parts { AreParts blank tables mapper }
     requires good { P.good rules }
     ensures { IfOk result (λ made. made.2.items ≡ fresh_callers 1 blank.rooms) }

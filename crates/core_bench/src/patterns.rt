@@ -26,8 +26,8 @@ pub fn run<N: Name, P: Rules + Drop>(
     rules: P,
     asked: Asked,
 ) -> Result<bool, Host>
-    requires table { blank.table ≡ N.table }
-    requires start { blank.start ≡ N.start }
+    requires table { blank.table ≡ N.facts.table }
+    requires start { blank.start ≡ N.facts.start }
     requires parts { AreParts blank tables mapper }
     requires rooms { blank.rooms ≡ 1 ∷ [] }
     requires good { P.good rules }

@@ -6,7 +6,7 @@ use ng_space::{Hand, Name, Slot, Space};
 
 /// Loads word 0 so often.
 pub fn loads<N: Name>(space: &Space<N>, hand: &mut Hand<N>, count: u64)
-    requires inside { 0 < 4096 * N.start.pages }
+    requires inside { 0 < 4096 * N.facts.start.pages }
 {
     for _ in 0..count {
         space.load(hand, 0);

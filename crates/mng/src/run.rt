@@ -42,13 +42,13 @@ pub fn run<N: Name, O: Sink, M: Mapper, P: Rules + Drop>(
     out: &mut O,
 ) -> (Status, M, Vec<Closed>)
     requires good { P.good policy }
-    requires table { fresh.blank.table ≡ N.table }
-    requires start { fresh.blank.start ≡ N.start }
-    requires secret { N.start.secret ≡ program_secret }
+    requires table { fresh.blank.table ≡ N.facts.table }
+    requires start { fresh.blank.start ≡ N.facts.start }
+    requires secret { N.facts.start.secret ≡ program_secret }
     requires sound { IsSound prepared.plan }
     requires rooms { fresh.blank.rooms ≡ rooms_for prepared.plan }
-    requires tables { AreEmpty N.start.pages fresh.tables }
-    requires mapper { IsFreshMapper N.start (M.span mapper) (M.runs mapper) (M.refused mapper) }
+    requires tables { AreEmpty N.facts.start.pages fresh.tables }
+    requires mapper { IsFreshMapper N.facts.start (M.span mapper) (M.runs mapper) (M.refused mapper) }
     ensures late { (result.0 ≡ Status.Host) ⊎ IsLate result.0 }
     ensures write_fault { result.0 ≡ Status.WriteFault → Rose (O.faults out.old) (O.faults out.new) }
     ensures ends { IsLate result.0 → Ends prepared.plan prepared.calls_shown (M.span mapper)
@@ -93,10 +93,10 @@ fn reported<N: Name, M: Mapper, P: Rules + Drop>(
     mut closed: Vec<Closed>,
 ) -> (M, Vec<Closed>, Vec<u8>)
     requires sound { IsSound prepared.plan }
-    requires secret { N.start.secret ≡ program_secret }
-    requires mapper { IsFreshMapper N.start (M.span core.mapper) (M.runs core.mapper) (M.refused core.mapper) }
+    requires secret { N.facts.start.secret ≡ program_secret }
+    requires mapper { IsFreshMapper N.facts.start (M.span core.mapper) (M.runs core.mapper) (M.refused core.mapper) }
     requires hands { hands.items ≡ fresh_callers 1 (rooms_for prepared.plan) }
-    requires seat { core.seat ≡ opened N.start (length prepared.plan.logs) }
+    requires seat { core.seat ≡ opened N.facts.start (length prepared.plan.logs) }
     requires room { HasRoom room prepared.plan }
     requires none { closed.items ≡ [] }
     requires one { 1 ≤ vec_capacity closed }

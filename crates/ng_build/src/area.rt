@@ -18,10 +18,10 @@ const COUNT: u64 = 16;
 /// secret, and its link the address of the area before, or 0 where it is the first.
 pub fn make_area<N: Name>(space: &Space<N>, seat: &mut LockSeat<N>, addr: u64, before: u64)
     requires whole { addr % 4096 ≡ 0 }
-    requires inside { addr + 4096 ≤ 4096 * N.start.pages }
+    requires inside { addr + 4096 ≤ 4096 * N.facts.start.pages }
     requires run { IsClearedRun seat.old addr 1 }
     requires link { (before ≡ 0) ⊎ IsAreaAt seat.old.desk.layout.runs before }
-    requires low { before < 4096 * N.start.pages }
+    requires low { before < 4096 * N.facts.start.pages }
     ensures view { OnlyCells (with_area seat.old addr) seat.new }
     ensures metas { AreMetasZero seat.new addr }
     ensures kept { KeepsOutside seat.old seat.new addr (addr + 4096) }

@@ -15,7 +15,7 @@ const PAGE_CELLS: u64 = 1024;
 /// Stores 0 in those of these cells that aren't 0. The seat builds or clears each of them.
 pub fn clear_cells<N: Name>(space: &Space<N>, seat: &mut LockSeat<N>, from: u64, cells: u64)
     requires cell { from % 4 ≡ 0 }
-    requires inside { from + 4 * cells ≤ 4096 * N.start.pages }
+    requires inside { from + 4 * cells ≤ 4096 * N.facts.start.pages }
     requires builds { BuildsAll seat.old from (from + 4 * cells) }
     ensures view { OnlyCells seat.old seat.new }
     ensures zero { AreZero seat.new from (from + 4 * cells) }
@@ -31,7 +31,7 @@ pub fn clear_cells<N: Name>(space: &Space<N>, seat: &mut LockSeat<N>, from: u64,
 
 /// Makes the ten cells of a meta 0 that has no live group.
 pub fn clear_meta<N: Name>(space: &Space<N>, seat: &mut LockSeat<N>, meta: u64)
-    requires place { IsMetaPlace meta N.start.pages }
+    requires place { IsMetaPlace meta N.facts.start.pages }
     requires idle { IsIdleMeta seat.old meta }
     ensures view { OnlyCells seat.old seat.new }
     ensures zero { AreZero seat.new meta (meta + 40) }
@@ -43,7 +43,7 @@ pub fn clear_meta<N: Name>(space: &Space<N>, seat: &mut LockSeat<N>, meta: u64)
 /// Makes all cells of a run 0 at which no live group begins, and notes that the run goes.
 pub fn drop_run<N: Name>(space: &Space<N>, seat: &mut LockSeat<N>, base: u64, pages: u64)
     requires whole { base % 4096 ≡ 0 }
-    requires inside { base + 4096 * pages ≤ 4096 * N.start.pages }
+    requires inside { base + 4096 * pages ≤ 4096 * N.facts.start.pages }
     requires idle { IsIdleRun seat.old base pages }
     ensures view { OnlyCells (without_run seat.old base) seat.new }
     ensures kept { KeepsOutside seat.old seat.new base (base + 4096 * pages) }

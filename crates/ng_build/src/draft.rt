@@ -61,7 +61,7 @@ impl Draft {
 
 // The cells of a meta whose other cells stay 0.
 pub(crate) fn write_meta<N: Name>(space: &Space<N>, seat: &mut LockSeat<N>, draft: &Draft)
-    requires place { IsMetaPlace draft.now.meta N.start.pages }
+    requires place { IsMetaPlace draft.now.meta N.facts.start.pages }
     requires idle { IsIdleMeta seat.old draft.now.meta }
     requires counted { IsCounted draft.now }
     requires class { draft.now.class < 64 }

@@ -36,11 +36,11 @@ pub fn publish_slot<N: Name>(
     draft: &Draft,
     parent: &Carrier,
 )
-    requires place { IsMetaPlace draft.now.meta N.start.pages }
+    requires place { IsMetaPlace draft.now.meta N.facts.start.pages }
     requires meta { IsBlankMeta seat.old draft.now.meta }
     requires counted { IsCounted draft.now }
     requires whole { draft.now.base % 16 ≡ 0 }
-    requires inside { draft.now.base + parent.now.stride ≤ 4096 * N.start.pages }
+    requires inside { draft.now.base + parent.now.stride ≤ 4096 * N.facts.start.pages }
     requires carrier { HasCarrier seat.old parent.now (draft_group draft.now) }
     ensures { PublishesSlot seat.old parent.now.meta parent.now.index (draft_group draft.now) draft.now.active seat.new }
 {
@@ -54,7 +54,7 @@ pub fn publish_slot<N: Name>(
 fn write_head<N: Name>(space: &Space<N>, seat: &mut LockSeat<N>, draft: &Draft, parent: &Carrier)
     requires meta { draft.now.meta < 2 ^ 32 }
     requires whole { draft.now.base % 16 ≡ 0 }
-    requires inside { draft.now.base + parent.now.stride ≤ 4096 * N.start.pages }
+    requires inside { draft.now.base + parent.now.stride ≤ 4096 * N.facts.start.pages }
     requires carrier { HasCarrier seat.old parent.now (draft_group draft.now) }
     ensures view { OnlySlot seat.old parent.now.meta parent.now.index seat.new }
     ensures base { SeesIn seat.new parent.now.meta parent.now.index draft.now.base draft.now.meta }
@@ -76,7 +76,7 @@ fn write_head<N: Name>(space: &Space<N>, seat: &mut LockSeat<N>, draft: &Draft, 
 // The header cells of the group's slots, and the one behind the last where it is the carrier's own.
 fn write_headers<N: Name>(space: &Space<N>, seat: &mut LockSeat<N>, draft: &Draft, parent: &Carrier)
     requires whole { draft.now.base % 16 ≡ 0 }
-    requires inside { draft.now.base + parent.now.stride ≤ 4096 * N.start.pages }
+    requires inside { draft.now.base + parent.now.stride ≤ 4096 * N.facts.start.pages }
     requires last { draft.now.last < 32 }
     requires carrier { HasCarrier seat.old parent.now (draft_group draft.now) }
     ensures view { OnlySlot seat.old parent.now.meta parent.now.index seat.new }
@@ -110,7 +110,7 @@ pub fn clear_head<N: Name>(
     base: u64,
 )
     requires whole { base % 16 ≡ 0 }
-    requires inside { base + 16 ≤ 4096 * N.start.pages }
+    requires inside { base + 16 ≤ 4096 * N.facts.start.pages }
     requires slot { HasHead seat.old meta index base }
     ensures view { OnlySlot seat.old meta index seat.new }
     ensures zero { SeesIn seat.new meta index base 0 }

@@ -11,11 +11,11 @@ use ng_space::{LockSeat, Name, Space};
 /// Builds a group on a run whose cells are known to be 0, and makes it live. Its slot 0 is in the
 /// seat, in motion.
 pub fn publish_run<N: Name>(space: &Space<N>, seat: &mut LockSeat<N>, draft: &Draft)
-    requires place { IsMetaPlace draft.now.meta N.start.pages }
+    requires place { IsMetaPlace draft.now.meta N.facts.start.pages }
     requires meta { IsBlankMeta seat.old draft.now.meta }
     requires whole { draft.now.base % 4096 ≡ 0 }
     requires some { 1 ≤ draft.now.maplen }
-    requires inside { draft.now.base + 4096 * draft.now.maplen ≤ 4096 * N.start.pages }
+    requires inside { draft.now.base + 4096 * draft.now.maplen ≤ 4096 * N.facts.start.pages }
     requires run { IsClearedRun seat.old draft.now.base draft.now.maplen }
     requires apart { IsMetaOutside draft.now.meta draft.now.base (draft.now.base + 4096 * draft.now.maplen) }
     requires counted { IsCounted draft.now }

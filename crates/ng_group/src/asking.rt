@@ -13,8 +13,8 @@ impl<N: Name, M: Mapper, P: Rules> Works<N, M, P> {
     /// What the rules are asked of a new group of a class.
     pub(crate) fn ask(&self, class: u32) -> Ask
         requires class { class < 48 }
-        requires few { N.start.pages ≤ 16384 }
-        requires working { Working N.start M.span M.runs M.refused self.now }
+        requires few { N.facts.start.pages ≤ 16384 }
+        requires working { Working N.facts.start M.span M.runs M.refused self.now }
         ensures range { AskInRange result }
         ensures asks { IsAsk self.now.usage self.now.bounces class result }
     {

@@ -39,11 +39,11 @@ impl<N: Name, M: Mapper, P: Rules> Works<N, M, P> {
         requires bytes { bytes + 4 ≤ 16 * units_of ask.now.class }
         requires count { IsCount ask.now.class count }
         requires large { ¬ IsNestedSize ask.now.class count }
-        requires working { Working N.start M.span M.runs M.refused self.old }
-        requires meta { HasInHand N.start (ledger_of self.old) meta }
+        requires working { Working N.facts.start M.span M.runs M.refused self.old }
+        requires meta { HasInHand N.facts.start (ledger_of self.old) meta }
         requires bare { IsBare self.old.seat.desk.zero_avail self.old.rings ask.now.class }
         requires idle { self.old.seat.held ≡ [] }
-        ensures working { Working N.start M.span M.runs M.refused self.new }
+        ensures working { Working N.facts.start M.span M.runs M.refused self.new }
         ensures on { GoesOn self.old.seat self.new.seat }
         ensures below { LeavesBelow ask.now.class (ledger_of self.old) (ledger_of self.new) }
         ensures hand { OnOk result (HandsOver meta (ledger_of self.old) (ledger_of self.new)) }
@@ -94,12 +94,12 @@ impl<N: Name, M: Mapper, P: Rules> Works<N, M, P> {
         requires class { class < 48 }
         requires count { IsCount class count }
         requires small { IsNestedSize class count }
-        requires working { Working N.start M.span M.runs M.refused self.old }
-        requires meta { HasInHand N.start (ledger_of self.old) meta }
+        requires working { Working N.facts.start M.span M.runs M.refused self.old }
+        requires meta { HasInHand N.facts.start (ledger_of self.old) meta }
         requires bare { IsBare self.old.seat.desk.zero_avail self.old.rings class }
         requires slot { (carrying : ℕ) × IsLeastClass (16 * units_of class * count + 12) carrying × (class < carrying)
             × HasServed carrying (16 * units_of class * count + 12) self.old.seat slot.0 slot.1 }
-        ensures working { Working N.start M.span M.runs M.refused self.new }
+        ensures working { Working N.facts.start M.span M.runs M.refused self.new }
         ensures on { GoesOn self.old.seat self.new.seat }
         ensures below { LeavesBelow class (ledger_of self.old) (ledger_of self.new) }
         ensures hand { HandsOver meta (ledger_of self.old) (ledger_of self.new) }

@@ -29,10 +29,10 @@ impl<N: Name, M: Mapper, P: Rules> Works<N, M, P> {
         meta: u64,
         group: &LiveGroup,
     ) -> Option<(u64, u32)>
-        requires working { Working N.start M.span M.runs M.refused self.old }
+        requires working { Working N.facts.start M.span M.runs M.refused self.old }
         requires whole { HasWhole self.old.seat meta }
         requires group { OfGroup self.old.seat meta (Describes group.now) }
-        ensures working { Working N.start M.span M.runs M.refused self.new }
+        ensures working { Working N.facts.start M.span M.runs M.refused self.new }
         ensures on { GoesOn self.old.seat self.new.seat }
         ensures hand { ComesInHand meta (ledger_of self.old) (ledger_of self.new) }
         ensures calm { IsCalm self.old.seat self.new.seat (M.refused self.old.mapper) (M.refused self.new.mapper) }
@@ -61,7 +61,7 @@ impl<N: Name, M: Mapper, P: Rules> Works<N, M, P> {
 
     // Ends a group of which every slot is in the seat, and makes the cells of its meta 0.
     fn retire_group(&mut self, space: &Space<N>, meta: u64, group: &LiveGroup)
-        requires working { Working N.start M.span M.runs M.refused self.old }
+        requires working { Working N.facts.start M.span M.runs M.refused self.old }
         requires whole { HasWhole self.old.seat meta }
         requires group { OfGroup self.old.seat meta (Describes group.now) }
         ensures ends { EndsGroup meta self.old self.new }
@@ -73,7 +73,7 @@ impl<N: Name, M: Mapper, P: Rules> Works<N, M, P> {
 
     // Takes the slots of a group off those in use of its class.
     fn uncount(&mut self, meta: u64, group: &LiveGroup)
-        requires working { Working N.start M.span M.runs M.refused self.old }
+        requires working { Working N.facts.start M.span M.runs M.refused self.old }
         requires whole { HasWhole self.old.seat meta }
         requires group { OfGroup self.old.seat meta (Describes group.now) }
         ensures only { self.new ≡ record self.old { usage = self.new.usage } }
@@ -88,10 +88,10 @@ impl<N: Name, M: Mapper, P: Rules> Works<N, M, P> {
 
     // Takes a group out of its ring, where it is in one, whose slots are all in the seat.
     fn leave_any_ring(&mut self, space: &Space<N>, meta: u64, class: u32)
-        requires working { Working N.start M.span M.runs M.refused self.old }
+        requires working { Working N.facts.start M.span M.runs M.refused self.old }
         requires whole { HasWhole self.old.seat meta }
         requires class { OfGroup self.old.seat meta (λ g. g.tag ≡ class + 1) }
-        ensures working { Working N.start M.span M.runs M.refused self.new }
+        ensures working { Working N.facts.start M.span M.runs M.refused self.new }
         ensures only { OnlyRing class self.old self.new }
         ensures whole { HasWhole self.new.seat meta }
         ensures left { ¬ IsListed self.new.rings meta }
@@ -105,11 +105,11 @@ impl<N: Name, M: Mapper, P: Rules> Works<N, M, P> {
     // Takes a group out of its ring whose slots are all in the seat. Where it was the first, the slots in use of the
     // next that are freed become available.
     fn leave_ring(&mut self, space: &Space<N>, meta: u64, class: u32)
-        requires working { Working N.start M.span M.runs M.refused self.old }
+        requires working { Working N.facts.start M.span M.runs M.refused self.old }
         requires whole { HasWhole self.old.seat meta }
         requires class { class < 48 }
         requires member { Contains (ring_of self.old.rings class) meta }
-        ensures working { Working N.start M.span M.runs M.refused self.new }
+        ensures working { Working N.facts.start M.span M.runs M.refused self.new }
         ensures only { OnlyRing class self.old self.new }
         ensures bounces { self.new.bounces ≡ self.old.bounces }
         ensures whole { HasWhole self.new.seat meta }
@@ -127,11 +127,11 @@ impl<N: Name, M: Mapper, P: Rules> Works<N, M, P> {
 
     // Takes a group out of its ring, and notes so. Its slots are all in the seat.
     fn unlist(&mut self, space: &Space<N>, meta: u64, class: u32)
-        requires working { Working N.start M.span M.runs M.refused self.old }
+        requires working { Working N.facts.start M.span M.runs M.refused self.old }
         requires whole { HasWhole self.old.seat meta }
         requires class { class < 48 }
         requires member { Contains (ring_of self.old.rings class) meta }
-        ensures working { Working N.start M.span M.runs M.refused self.new }
+        ensures working { Working N.facts.start M.span M.runs M.refused self.new }
         ensures only { OnlyRing class self.old self.new }
         ensures bounces { self.new.bounces ≡ self.old.bounces }
         ensures whole { HasWhole self.new.seat meta }

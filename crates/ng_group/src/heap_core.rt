@@ -42,7 +42,7 @@ impl<N: Name, M: Mapper, P: Rules> Model for Core<N, M, P> {
 
     ghost view = { λ core. core.works };
 
-    ghost invariant = { λ core. Resting N.start M.span M.runs M.refused core.works };
+    ghost invariant = { λ core. Resting N.facts.start M.span M.runs M.refused core.works };
 }
 
 impl<N: Name, M: Mapper, P: Rules> Core<N, M, P> {
@@ -54,9 +54,9 @@ impl<N: Name, M: Mapper, P: Rules> Core<N, M, P> {
         mapper: M,
         rules: Kept<P>,
     ) -> Core<N, M, P>
-        requires seat { IsFreshSeat N.start seat }
-        requires tables { AreEmpty N.start.pages tables }
-        requires mapper { IsFreshMapper N.start (M.span mapper) (M.runs mapper) (M.refused mapper) }
+        requires seat { IsFreshSeat N.facts.start seat }
+        requires tables { AreEmpty N.facts.start.pages tables }
+        requires mapper { IsFreshMapper N.facts.start (M.span mapper) (M.runs mapper) (M.refused mapper) }
         ensures seat { result.seat ≡ seat }
         ensures mapper { result.mapper ≡ mapper }
         ensures rules { result.rules ≡ rules }

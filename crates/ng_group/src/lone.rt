@@ -24,9 +24,9 @@ impl<N: Name, M: Mapper, P: Rules> Works<N, M, P> {
     pub(crate) fn seat_lone(&mut self, space: &Space<N>, bytes: u64) -> Result<u64, u64>
         requires large { 131052 ≤ bytes }
         requires bytes { bytes < 9223372036854771711 }
-        requires working { Working N.start M.span M.runs M.refused self.old }
+        requires working { Working N.facts.start M.span M.runs M.refused self.old }
         requires idle { self.old.seat.held ≡ [] }
-        ensures working { Working N.start M.span M.runs M.refused self.new }
+        ensures working { Working N.facts.start M.span M.runs M.refused self.new }
         ensures on { GoesOn self.old.seat self.new.seat }
         ensures hand { KeepsHand (ledger_of self.old) (ledger_of self.new) }
         ensures served { IfOk result (λ meta. HasServed 63 bytes self.new.seat meta 0) }
@@ -53,10 +53,10 @@ impl<N: Name, M: Mapper, P: Rules> Works<N, M, P> {
     fn build_lone(&mut self, space: &Space<N>, meta: u64, bytes: u64) -> Result<(), u64>
         requires large { 131052 ≤ bytes }
         requires bytes { bytes < 9223372036854771711 }
-        requires working { Working N.start M.span M.runs M.refused self.old }
-        requires meta { HasInHand N.start (ledger_of self.old) meta }
+        requires working { Working N.facts.start M.span M.runs M.refused self.old }
+        requires meta { HasInHand N.facts.start (ledger_of self.old) meta }
         requires idle { self.old.seat.held ≡ [] }
-        ensures working { Working N.start M.span M.runs M.refused self.new }
+        ensures working { Working N.facts.start M.span M.runs M.refused self.new }
         ensures on { GoesOn self.old.seat self.new.seat }
         ensures hand { OnOk result (HandsOver meta (ledger_of self.old) (ledger_of self.new)) }
         ensures kept { OnErr result (KeepsHand (ledger_of self.old) (ledger_of self.new)) }

@@ -31,10 +31,10 @@ impl<N: Name, M: Mapper, P: Rules> Works<N, M, P> {
     /// Returns the slot in the seat to its group, whose numbers are given. The group is torn down where all of its slots
     /// are back then and it may go, and so may be the one around it.
     pub(crate) fn seat_return(&mut self, space: &Space<N>, meta: u64, index: u32, group: &LiveGroup)
-        requires working { Working N.start M.span M.runs M.refused self.old }
+        requires working { Working N.facts.start M.span M.runs M.refused self.old }
         requires slot { HasReturned self.old.seat meta index }
         requires group { OfGroup self.old.seat meta (Describes group.now) }
-        ensures working { Working N.start M.span M.runs M.refused self.new }
+        ensures working { Working N.facts.start M.span M.runs M.refused self.new }
         ensures on { GoesOn self.old.seat self.new.seat }
         ensures hand { KeepsHand (ledger_of self.old) (ledger_of self.new) }
         ensures calm { IsCalm self.old.seat self.new.seat (M.refused self.old.mapper) (M.refused self.new.mapper) }
@@ -58,10 +58,10 @@ impl<N: Name, M: Mapper, P: Rules> Works<N, M, P> {
     // Puts the slot in the seat back into its group; or, where the group has all of its slots then and may go, takes
     // them all into the seat, and answers so.
     fn take_whole(&mut self, space: &Space<N>, meta: u64, index: u32, group: &LiveGroup) -> bool
-        requires working { Working N.start M.span M.runs M.refused self.old }
+        requires working { Working N.facts.start M.span M.runs M.refused self.old }
         requires slot { HasReturned self.old.seat meta index }
         requires group { OfGroup self.old.seat meta (Describes group.now) }
-        ensures working { Working N.start M.span M.runs M.refused self.new }
+        ensures working { Working N.facts.start M.span M.runs M.refused self.new }
         ensures only { OnlyRing group.now.class self.old self.new }
         ensures whole { IsTrue result → HasWhole self.new.seat meta }
         ensures idle { result ≡ false → self.new.seat.held ≡ [] }
@@ -77,8 +77,8 @@ impl<N: Name, M: Mapper, P: Rules> Works<N, M, P> {
 
     // Whether a slot and those of its group's masks are all of the group's slots, and it may go.
     fn may_end(&self, meta: u64, index: u32, group: &LiveGroup, masks: (u32, u32)) -> bool
-        requires few { N.start.pages ≤ 16384 }
-        requires working { Working N.start M.span M.runs M.refused self.now }
+        requires few { N.facts.start.pages ≤ 16384 }
+        requires working { Working N.facts.start M.span M.runs M.refused self.now }
         requires live { HasGroup self.now.seat meta }
         requires group { OfGroup self.now.seat meta (Describes group.now) }
         requires index { index ≤ group.now.last }
@@ -95,8 +95,8 @@ impl<N: Name, M: Mapper, P: Rules> Works<N, M, P> {
     // Whether a group may be torn down once all of its slots are back: it is one block, or has one slot of less than its
     // class, or is nested, or the rules don't keep it.
     fn may_go(&self, meta: u64, group: &LiveGroup) -> bool
-        requires few { N.start.pages ≤ 16384 }
-        requires working { Working N.start M.span M.runs M.refused self.now }
+        requires few { N.facts.start.pages ≤ 16384 }
+        requires working { Working N.facts.start M.span M.runs M.refused self.now }
         requires live { HasGroup self.now.seat meta }
         requires group { OfGroup self.now.seat meta (Describes group.now) }
         ensures goes { result ≡ true → MayGo (P.keep_gives self.now.rules) self.now meta group.now }
@@ -110,8 +110,8 @@ impl<N: Name, M: Mapper, P: Rules> Works<N, M, P> {
 
     // What the rules are asked of a group whose slots are all free.
     fn spare(&self, meta: u64, group: &LiveGroup) -> Spare
-        requires few { N.start.pages ≤ 16384 }
-        requires working { Working N.start M.span M.runs M.refused self.now }
+        requires few { N.facts.start.pages ≤ 16384 }
+        requires working { Working N.facts.start M.span M.runs M.refused self.now }
         requires live { HasGroup self.now.seat meta }
         requires group { OfGroup self.now.seat meta (Describes group.now) }
         requires class { group.now.class < 48 }
@@ -130,12 +130,12 @@ impl<N: Name, M: Mapper, P: Rules> Works<N, M, P> {
 
     // Sets the slot's bit in the freed mask of its group, which comes into its ring where it isn't there.
     fn put_back(&mut self, space: &Space<N>, meta: u64, index: u32, class: u32)
-        requires working { Working N.start M.span M.runs M.refused self.old }
+        requires working { Working N.facts.start M.span M.runs M.refused self.old }
         requires slot { HasReturned self.old.seat meta index }
         requires class { OfGroup self.old.seat meta (λ g. g.tag ≡ class + 1) }
         requires plain { OfGroup self.old.seat meta IsPlain }
         requires bare { ¬ IsListed self.old.rings meta → Among meta self.old.seat.desk.zero_avail }
-        ensures working { Working N.start M.span M.runs M.refused self.new }
+        ensures working { Working N.facts.start M.span M.runs M.refused self.new }
         ensures only { OnlyRing class self.old self.new }
         ensures bounces { self.new.bounces ≡ self.old.bounces }
         ensures idle { self.new.seat.held ≡ [] }
@@ -148,10 +148,10 @@ impl<N: Name, M: Mapper, P: Rules> Works<N, M, P> {
     // Lets a group, whose avail mask is 0, come into the ring of its class. Nothing is done where it is there.
     fn enlist(&mut self, space: &Space<N>, meta: u64, class: u32)
         requires class { class < 48 }
-        requires working { Working N.start M.span M.runs M.refused self.old }
+        requires working { Working N.facts.start M.span M.runs M.refused self.old }
         requires group { IsOfClass self.old.seat.desk.groups meta class }
         requires bare { ¬ IsListed self.old.rings meta → Among meta self.old.seat.desk.zero_avail }
-        ensures working { Working N.start M.span M.runs M.refused self.new }
+        ensures working { Working N.facts.start M.span M.runs M.refused self.new }
         ensures only { OnlyRing class self.old self.new }
         ensures bounces { self.new.bounces ≡ self.old.bounces }
         ensures listed { Among meta self.new.seat.desk.listed }
@@ -169,7 +169,7 @@ impl<N: Name, M: Mapper, P: Rules> Works<N, M, P> {
 
 // Reads the masks of a live group, freed before avail. The answer is avail and freed.
 fn read_masks<N: Name>(space: &Space<N>, seat: &mut LockSeat<N>, meta: u64) -> (u32, u32)
-    requires place { IsMetaPlace meta N.start.pages }
+    requires place { IsMetaPlace meta N.facts.start.pages }
     requires live { HasGroup seat.old meta }
     ensures { LooksAt seat.old meta result.0 result.1 seat.new }
 {
@@ -198,7 +198,7 @@ fn capture_all<N: Name>(
     index: u32,
     last: u32,
 ) -> bool
-    requires place { IsMetaPlace meta N.start.pages }
+    requires place { IsMetaPlace meta N.facts.start.pages }
     requires slot { HasReturned seat.old meta index }
     requires few { last < 32 }
     requires last { OfGroup seat.old meta (λ g. g.last ≡ last) }

@@ -37,9 +37,9 @@ impl<N: Name, M: Mapper, P: Rules> Works<N, M, P> {
     ) -> Result<(u64, u32), u64>
         requires class { class < 48 }
         requires bytes { bytes + 4 ≤ 16 * units_of class }
-        requires working { Working N.start M.span M.runs M.refused self.old }
+        requires working { Working N.facts.start M.span M.runs M.refused self.old }
         requires idle { self.old.seat.held ≡ [] }
-        ensures working { Working N.start M.span M.runs M.refused self.new }
+        ensures working { Working N.facts.start M.span M.runs M.refused self.new }
         ensures on { GoesOn self.old.seat self.new.seat }
         ensures hand { KeepsHand (ledger_of self.old) (ledger_of self.new) }
         ensures below { LeavesBelow class (ledger_of self.old) (ledger_of self.new) }
@@ -86,9 +86,9 @@ impl<N: Name, M: Mapper, P: Rules> Works<N, M, P> {
     fn serve_ring(&mut self, space: &Space<N>, class: u32, bytes: u64) -> Option<(u64, u32)>
         requires class { class < 48 }
         requires bytes { bytes + 4 ≤ 16 * units_of class }
-        requires working { Working N.start M.span M.runs M.refused self.old }
+        requires working { Working N.facts.start M.span M.runs M.refused self.old }
         requires idle { self.old.seat.held ≡ [] }
-        ensures working { Working N.start M.span M.runs M.refused self.new }
+        ensures working { Working N.facts.start M.span M.runs M.refused self.new }
         ensures only { OnlyRing class self.old self.new }
         ensures served { IfSome result (λ slot. HasServed class bytes self.new.seat slot.0 slot.1) }
         ensures none { IfNone result (FindsNoSlot class self.old self.new) }
@@ -106,10 +106,10 @@ impl<N: Name, M: Mapper, P: Rules> Works<N, M, P> {
         requires class { class < 48 }
         requires bytes { bytes + 4 ≤ 16 * units_of class }
         requires first { slice_get (ring_of self.old.rings class) 0 ≡ Some first }
-        requires working { Working N.start M.span M.runs M.refused self.old }
+        requires working { Working N.facts.start M.span M.runs M.refused self.old }
         requires bare { IsBare self.old.seat.desk.zero_avail self.old.rings class }
         requires idle { self.old.seat.held ≡ [] }
-        ensures working { Working N.start M.span M.runs M.refused self.new }
+        ensures working { Working N.facts.start M.span M.runs M.refused self.new }
         ensures only { OnlyRing class self.old self.new }
         ensures served { IfSome result (λ slot. HasServed class bytes self.new.seat slot.0 slot.1) }
         ensures none { IfNone result (FindsNoFreed class first self.old self.new) }
@@ -124,9 +124,9 @@ impl<N: Name, M: Mapper, P: Rules> Works<N, M, P> {
     fn leave_if_bare(&mut self, space: &Space<N>, class: u32, first: u64) -> Option<u64>
         requires class { class < 48 }
         requires first { slice_get (ring_of self.old.rings class) 0 ≡ Some first }
-        requires working { Working N.start M.span M.runs M.refused self.old }
+        requires working { Working N.facts.start M.span M.runs M.refused self.old }
         requires bare { IsBare self.old.seat.desk.zero_avail self.old.rings class }
-        ensures working { Working N.start M.span M.runs M.refused self.new }
+        ensures working { Working N.facts.start M.span M.runs M.refused self.new }
         ensures only { OnlyRing class self.old self.new }
         ensures walk { StartsWalk class first self.old self.new }
         ensures start { IfSome result (Contains (ring_of self.new.rings class)) }
@@ -147,10 +147,10 @@ impl<N: Name, M: Mapper, P: Rules> Works<N, M, P> {
         requires bytes { bytes + 4 ≤ 16 * units_of class }
         requires member { Contains (ring_of self.old.rings class) choice.meta }
         requires choice { IsChoice self.old.seat choice }
-        requires working { Working N.start M.span M.runs M.refused self.old }
+        requires working { Working N.facts.start M.span M.runs M.refused self.old }
         requires bare { IsBare self.old.seat.desk.zero_avail self.old.rings class }
         requires idle { self.old.seat.held ≡ [] }
-        ensures working { Working N.start M.span M.runs M.refused self.new }
+        ensures working { Working N.facts.start M.span M.runs M.refused self.new }
         ensures only { OnlyRing class self.old self.new }
         ensures served { HasServed class bytes self.new.seat result.0 result.1 }
     {

@@ -79,8 +79,8 @@ fn run<N: Name, P: Rules + Drop, R: Abort>(
     mapper: FirstFit,
     rules: P,
 ) -> Result<(), Fail>
-    requires table { blank.table ≡ N.table }
-    requires start { blank.start ≡ N.start }
+    requires table { blank.table ≡ N.facts.table }
+    requires start { blank.start ≡ N.facts.start }
     requires parts { AreParts blank tables mapper }
     requires rooms { blank.rooms ≡ CALLS ∷ [] }
     requires good { P.good rules }

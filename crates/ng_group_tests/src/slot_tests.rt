@@ -30,8 +30,8 @@ fn serve_four<N: Name, P: Rules + Drop, R: Abort>(
     mapper: FirstFit,
     rules: P,
 ) -> Result<(), Fail>
-    requires table { blank.table ≡ N.table }
-    requires start { blank.start ≡ N.start }
+    requires table { blank.table ≡ N.facts.table }
+    requires start { blank.start ≡ N.facts.start }
     requires parts { AreParts blank tables mapper }
     requires rooms { blank.rooms ≡ 4 ∷ [] }
     requires good { P.good rules }
@@ -90,8 +90,8 @@ fn refuse_one<N: Name, P: Rules + Drop, R: Abort>(
     mapper: FirstFit,
     rules: P,
 ) -> Result<(), Fail>
-    requires table { blank.table ≡ N.table }
-    requires start { blank.start ≡ N.start }
+    requires table { blank.table ≡ N.facts.table }
+    requires start { blank.start ≡ N.facts.start }
     requires parts { AreParts blank tables mapper }
     requires rooms { blank.rooms ≡ 4 ∷ [] }
     requires good { P.good rules }

@@ -34,12 +34,12 @@ impl<N: Name> Heap<N> {
         mapper: M,
         rules: Kept<P>,
     ) -> Result<(Heap<N>, Core<N, M, P>, Vec<Hand<N>>), (M, Host)>
-        requires table { blank.table ≡ N.table }
-        requires start { blank.start ≡ N.start }
-        requires tables { AreEmpty N.start.pages tables }
-        requires mapper { IsFreshMapper N.start (M.span mapper) (M.runs mapper) (M.refused mapper) }
+        requires table { blank.table ≡ N.facts.table }
+        requires start { blank.start ≡ N.facts.start }
+        requires tables { AreEmpty N.facts.start.pages tables }
+        requires mapper { IsFreshMapper N.facts.start (M.span mapper) (M.runs mapper) (M.refused mapper) }
         ensures hands { IfOk result (λ made. made.2.items ≡ fresh_callers 1 blank.rooms) }
-        ensures seat { IfOk result (λ made. made.1.seat ≡ opened N.start (length blank.rooms)) }
+        ensures seat { IfOk result (λ made. made.1.seat ≡ opened N.facts.start (length blank.rooms)) }
         ensures mapper { IfOk result (λ made. made.1.mapper ≡ mapper) }
         ensures rules { IfOk result (λ made. made.1.rules ≡ rules) }
         ensures handed_back { IfErr result (λ error. error.0 ≡ mapper) }
@@ -68,15 +68,15 @@ impl<N: Name> Heap<N> {
         requires all { AreAll core.seat hands.items }
         requires parcels { IsEven hands.items }
         ensures slots { Slots result.0.words (views_of core.seat hands.items) }
-        ensures words { Words N.start result.0.words (views_of core.seat hands.items) }
+        ensures words { Words N.facts.start result.0.words (views_of core.seat hands.items) }
         ensures listing { Listing result.0.words core.seat.desk }
-        ensures excuses { Excuses N.start (views_of core.seat hands.items) }
-        ensures history { History N.start (views_of core.seat hands.items) }
+        ensures excuses { Excuses N.facts.start (views_of core.seat hands.items) }
+        ensures history { History N.facts.start (views_of core.seat hands.items) }
         ensures knowledge { Knowledge result.0.words (views_of core.seat hands.items) }
         ensures classes { Classes (views_of core.seat hands.items) }
         ensures runs { AreRunsUsed result.0.words core.seat.desk.layout }
         ensures free { AreFreeMetasBlank result.0.words core.seat.desk.layout }
-        ensures pages { result.0.pages ≡ N.start.pages }
+        ensures pages { result.0.pages ≡ N.facts.start.pages }
         ensures books { result.1.items ≡ books_of hands.items }
         ensures own { All HasOwnBook hands.items }
         ensures whole { All (λ view. view.parcel ≡ false) (views_of core.seat hands.items) }

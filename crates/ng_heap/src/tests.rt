@@ -51,8 +51,8 @@ fn begin<N: Name, P: Rules + Drop>(
     mapper: FirstFit,
     rules: P,
 ) -> Result<(Heap<N>, Core<N, FirstFit, P>, Hand<N>), Host>
-    requires table { blank.table ≡ N.table }
-    requires start { blank.start ≡ N.start }
+    requires table { blank.table ≡ N.facts.table }
+    requires start { blank.start ≡ N.facts.start }
     requires parts { AreParts blank tables mapper }
     requires rooms { blank.rooms ≡ ROOM ∷ [] }
     requires good { P.good rules }
@@ -183,8 +183,8 @@ fn free_three<N: Name, P: Rules + Drop, R: Abort>(
     mapper: FirstFit,
     rules: P,
 ) -> Result<(), Fail>
-    requires table { blank.table ≡ N.table }
-    requires start { blank.start ≡ N.start }
+    requires table { blank.table ≡ N.facts.table }
+    requires start { blank.start ≡ N.facts.start }
     requires parts { AreParts blank tables mapper }
     requires rooms { blank.rooms ≡ ROOM ∷ [] }
     requires good { P.good rules }
@@ -224,8 +224,8 @@ fn give_large<N: Name, P: Rules + Drop, R: Abort>(
     mapper: FirstFit,
     rules: P,
 ) -> Result<(), Fail>
-    requires table { blank.table ≡ N.table }
-    requires start { blank.start ≡ N.start }
+    requires table { blank.table ≡ N.facts.table }
+    requires start { blank.start ≡ N.facts.start }
     requires parts { AreParts blank tables mapper }
     requires rooms { blank.rooms ≡ ROOM ∷ [] }
     requires good { P.good rules }

@@ -13,7 +13,7 @@ pub(crate) const MOST_TRIES: u32 = 32;
 
 /// Takes the lowest slot that is available in the group of a meta, if the group is of that class.
 pub fn pop<N: Name>(space: &Space<N>, hand: &mut Hand<N>, meta: u64, class: u32) -> Pop<N>
-    requires place { IsMetaPlace meta N.start.pages }
+    requires place { IsMetaPlace meta N.facts.start.pages }
     requires class { class < 48 }
     ensures won { OnWon result (HasSlot hand.new) }
     ensures once { OnWon result (λ slot. AreOnce hand.new.view) }

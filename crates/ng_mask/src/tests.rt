@@ -46,7 +46,7 @@ fn too_large(count: u64) -> Entry
 
 // A pop from a meta that has no group.
 fn finds_none<N: Name, R: Abort>(rt: &R, space: &Space<N>, hand: &mut Hand<N>)
-    requires pages { N.start.pages ≡ PAGES }
+    requires pages { N.facts.start.pages ≡ PAGES }
     ensures hand { HasEntered hand.old hand.new }
     ensures spare { hand.new.spare ≡ hand.old.spare }
     ensures entries { hand.new.entries ≡ hand.old.entries }
@@ -66,8 +66,8 @@ fn a_pop_finds_no_group(rt: HostRuntime) -> Result<(), Fail> {
 }
 
 fn pop_once<N: Name, R: Abort>(rt: &R, alloc: Global, blank: Blank) -> Result<(), Fail>
-    requires table { blank.table ≡ N.table }
-    requires start { blank.start ≡ N.start }
+    requires table { blank.table ≡ N.facts.table }
+    requires start { blank.start ≡ N.facts.start }
     requires pages { blank.start.pages ≡ PAGES }
     requires rooms { blank.rooms ≡ 4 ∷ [] }
 {
@@ -104,8 +104,8 @@ fn pop_in_two<N: Name + Send + Sync, R: Threads + Wait + Abort + Sync>(
     alloc: Global,
     blank: Blank,
 ) -> Result<(), Fail>
-    requires table { blank.table ≡ N.table }
-    requires start { blank.start ≡ N.start }
+    requires table { blank.table ≡ N.facts.table }
+    requires start { blank.start ≡ N.facts.start }
     requires pages { blank.start.pages ≡ PAGES }
     requires rooms { blank.rooms ≡ 2 ∷ 1 ∷ [] }
 {
@@ -114,12 +114,12 @@ fn pop_in_two<N: Name + Send + Sync, R: Threads + Wait + Abort + Sync>(
     let (first, second) = join(
         rt,
         || -> Hand<N>
-            requires pages { N.start.pages ≡ PAGES }
+            requires pages { N.facts.start.pages ≡ PAGES }
             requires spare { 1 ≤ first.spare }
             ensures { HasEntered first result }
         { popped(rt, &space, first, too_large(1)) },
         || -> Hand<N>
-            requires pages { N.start.pages ≡ PAGES }
+            requires pages { N.facts.start.pages ≡ PAGES }
             requires spare { 1 ≤ second.spare }
             ensures { HasEntered second result }
         { popped(rt, &space, second, too_large(2)) },
@@ -148,7 +148,7 @@ fn two_hands<N: Name>(mut hands: Vec<Hand<N>>) -> (Hand<N>, Hand<N>)
 
 // The hand after a pop that finds no group, and with one entry more.
 fn popped<N: Name, R: Abort>(rt: &R, space: &Space<N>, mut hand: Hand<N>, entry: Entry) -> Hand<N>
-    requires pages { N.start.pages ≡ PAGES }
+    requires pages { N.facts.start.pages ≡ PAGES }
     requires spare { 1 ≤ hand.spare }
     requires legal { IsLegalAnytime entry }
     ensures { HasEntered hand result }

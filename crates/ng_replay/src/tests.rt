@@ -108,8 +108,8 @@ fn replayed<N: Name, P: Rules + Drop, R: Abort>(
     mapper: FirstFit,
     rules: P,
 ) -> (Vec<Items<Reply>>, Vec<Book>)
-    requires table { blank.table ≡ N.table }
-    requires start { blank.start ≡ N.start }
+    requires table { blank.table ≡ N.facts.table }
+    requires start { blank.start ≡ N.facts.start }
     requires parts { AreParts blank tables mapper }
     requires rooms { blank.rooms ≡ rooms_for plan.now }
     requires good { P.good rules }

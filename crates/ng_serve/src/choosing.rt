@@ -70,10 +70,10 @@ pub fn choose<N: Name>(
 ) -> Option<Choice>
     requires class { class < 48 }
     requires start { Contains (ring_of rings.now class) start }
-    requires pages { rings.now.pages ≡ N.start.pages }
+    requires pages { rings.now.pages ≡ N.facts.start.pages }
     requires live { RingLives seat.old.desk.groups (ring_of rings.now class) class }
     requires bare { RingEmpty seat.old (ring_of rings.now class) }
-    requires inside { AreInSpace N.start.pages seat.old.desk.groups }
+    requires inside { AreInSpace N.facts.start.pages seat.old.desk.groups }
     ensures notes { Notes seat.old seat.new }
     ensures member { IfSome result (λ choice. Contains (ring_of rings.now class) choice.meta) }
     ensures freed { IfSome result (IsChoice seat.new) }
@@ -98,10 +98,10 @@ pub fn choose<N: Name>(
 
 // What the group of a meta offers, whose avail mask is noted as 0: nothing where no slot is freed.
 fn look<N: Name>(space: &Space<N>, seat: &mut LockSeat<N>, meta: u64) -> Option<Offer>
-    requires place { IsMetaPlace meta N.start.pages }
+    requires place { IsMetaPlace meta N.facts.start.pages }
     requires live { HasGroup seat.old meta }
     requires bare { Among meta seat.old.desk.zero_avail }
-    requires inside { AreInSpace N.start.pages seat.old.desk.groups }
+    requires inside { AreInSpace N.facts.start.pages seat.old.desk.groups }
     ensures notes { Notes seat.old seat.new }
     ensures freed { IfSome result (λ offer. IsChoice seat.new offer.choice) }
     ensures meta { IfSome result (λ offer. offer.choice.meta ≡ meta) }
@@ -119,7 +119,7 @@ fn look<N: Name>(space: &Space<N>, seat: &mut LockSeat<N>, meta: u64) -> Option<
 
 // The freed mask of a live group, read after its avail mask, which is noted as 0.
 fn freed_mask<N: Name>(space: &Space<N>, seat: &mut LockSeat<N>, meta: u64) -> u32
-    requires place { IsMetaPlace meta N.start.pages }
+    requires place { IsMetaPlace meta N.facts.start.pages }
     requires live { HasGroup seat.old meta }
     requires bare { Among meta seat.old.desk.zero_avail }
     ensures { ReadsMasks seat.old meta result seat.new }

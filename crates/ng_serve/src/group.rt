@@ -24,7 +24,7 @@ pub struct LiveGroup {
 
 /// The numbers of the live group of a meta, by its two words of mem and flags.
 pub fn group_of<N: Name>(space: &Space<N>, seat: &mut LockSeat<N>, meta: u64) -> LiveGroup
-    requires place { IsMetaPlace meta N.start.pages }
+    requires place { IsMetaPlace meta N.facts.start.pages }
     requires live { HasGroup seat.old meta }
     ensures group { OfGroup seat.old meta (Describes result) }
     ensures class { result.class < 64 }
@@ -37,7 +37,7 @@ pub fn group_of<N: Name>(space: &Space<N>, seat: &mut LockSeat<N>, meta: u64) ->
 
 /// The same of the meta of a slot that is in the seat, whose group is live for that.
 pub fn group_of_slot<N: Name>(space: &Space<N>, seat: &mut LockSeat<N>, meta: u64) -> LiveGroup
-    requires place { IsMetaPlace meta N.start.pages }
+    requires place { IsMetaPlace meta N.facts.start.pages }
     requires slot { HasSlotOf seat.old meta }
     ensures slots { AreOfGroups seat.old }
     ensures group { OfGroup seat.old meta (Describes result) }
@@ -51,7 +51,7 @@ pub fn group_of_slot<N: Name>(space: &Space<N>, seat: &mut LockSeat<N>, meta: u6
 
 // The two words, which the seat's notes or one of its slots show to be those of a live group.
 fn read_group<N: Name>(space: &Space<N>, seat: &mut LockSeat<N>, meta: u64) -> LiveGroup
-    requires place { IsMetaPlace meta N.start.pages }
+    requires place { IsMetaPlace meta N.facts.start.pages }
     requires live { HasGroup seat.old meta ⊎ HasSlotOf seat.old meta }
     ensures slots { AreOfGroups seat.old }
     ensures group { OfGroup seat.old meta (Describes result) }
@@ -75,7 +75,7 @@ fn read_group<N: Name>(space: &Space<N>, seat: &mut LockSeat<N>, meta: u64) -> L
 /// count.
 pub fn active_index<N: Name>(space: &Space<N>, seat: &mut LockSeat<N>, base: u64) -> u32
     requires group { IsActiveIndex seat.old (base + 8) }
-    requires inside { AreInSpace N.start.pages seat.old.desk.groups }
+    requires inside { AreInSpace N.facts.start.pages seat.old.desk.groups }
     ensures small { result < 32 }
     ensures index { ReadsIndex seat.old base result seat.new }
     ensures reads { Reads seat.old seat.new }
@@ -92,7 +92,7 @@ pub fn activate<N: Name>(
     lowest: u32,
 ) -> u32
     requires group { IsActiveIndex seat.old (group.now.base + 8) }
-    requires inside { AreInSpace N.start.pages seat.old.desk.groups }
+    requires inside { AreInSpace N.facts.start.pages seat.old.desk.groups }
     requires class { group.now.class < 48 }
     requires last { group.now.last < 32 }
     requires lowest { lowest ≤ group.now.last }

@@ -11,7 +11,7 @@ use ng_space::{LockSeat, Name, Space};
 /// Sets these bits in a group's freed mask, whose slots were in the seat, in motion. Nothing is done
 /// where there are none.
 pub fn put_bits<N: Name>(space: &Space<N>, seat: &mut LockSeat<N>, meta: u64, bits: u32)
-    requires place { IsMetaPlace meta N.start.pages }
+    requires place { IsMetaPlace meta N.facts.start.pages }
     requires may { 0 < bits → MayPutBack seat.old meta bits }
     ensures { PutsBits seat.old meta bits seat.new }
 {
@@ -22,7 +22,7 @@ pub fn put_bits<N: Name>(space: &Space<N>, seat: &mut LockSeat<N>, meta: u64, bi
 
 /// Sets the bit of one slot in its group's freed mask, which was in the seat, in motion.
 pub fn put_slot<N: Name>(space: &Space<N>, seat: &mut LockSeat<N>, meta: u64, index: u32)
-    requires place { IsMetaPlace meta N.start.pages }
+    requires place { IsMetaPlace meta N.facts.start.pages }
     requires served { IsServed seat.old meta }
     requires slot { HasBare seat.old.held meta index }
     ensures { PutsSlot seat.old meta index seat.new }
@@ -39,7 +39,7 @@ pub fn put_captured<N: Name>(
     masks: (u32, u32),
     index: u32,
 )
-    requires place { IsMetaPlace meta N.start.pages }
+    requires place { IsMetaPlace meta N.facts.start.pages }
     requires served { IsServed seat.old meta }
     requires bare { Among meta seat.old.desk.zero_avail }
     requires captured { HasCaptured seat.old meta masks.0 masks.1 index }

@@ -15,7 +15,7 @@ use ng_space::{LockSeat, Name, Space};
 /// The lowest is the answer and in the seat, in motion; the others are in the avail mask, which was
 /// noted as 0.
 pub fn take_freed<N: Name>(space: &Space<N>, seat: &mut LockSeat<N>, meta: u64, upto: u32) -> u32
-    requires place { IsMetaPlace meta N.start.pages }
+    requires place { IsMetaPlace meta N.facts.start.pages }
     requires live { HasGroup seat.old meta }
     requires bare { Among meta seat.old.desk.zero_avail }
     requires upto { upto < 32 }
@@ -31,10 +31,10 @@ pub fn take_freed<N: Name>(space: &Space<N>, seat: &mut LockSeat<N>, meta: u64, 
 /// Puts those of a live group's slots in use that are freed into its avail mask, which was noted as
 /// 0.
 pub fn stock_freed<N: Name>(space: &Space<N>, seat: &mut LockSeat<N>, meta: u64)
-    requires place { IsMetaPlace meta N.start.pages }
+    requires place { IsMetaPlace meta N.facts.start.pages }
     requires live { HasGroup seat.old meta }
     requires bare { Among meta seat.old.desk.zero_avail }
-    requires inside { AreInSpace N.start.pages seat.old.desk.groups }
+    requires inside { AreInSpace N.facts.start.pages seat.old.desk.groups }
     ensures { StocksFreed seat.old meta seat.new }
 {
     let group = group_of(space, seat, meta);

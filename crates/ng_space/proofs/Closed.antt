@@ -1,5 +1,5 @@
 -- A close, from what the table tells of the last state.
-use Rattle.std.proofs.Common.{◌≡◌, ℕ, List, true, false, cond, ap, ◌∙◌, subst}
+use Rattle.std.proofs.Common.{◌≡◌, ℕ, ◌+◌, List, true, false, cond, ap, ◌∙◌, subst}
 use mathlib.Core.Option.{some}
 use Rattle.std.specs.Prelude.{All}
 use lib.ListN.{get_elem?}
@@ -10,7 +10,7 @@ use Rattle.ng_view.specs.Views.{desk_of}
 use Rattle.ng_view.specs.declared.view.View.{View}
 use Rattle.ng_view.specs.declared.view.Start.{Start}
 use Rattle.ng_space.specs.Callers.{Caller}
-use Rattle.ng_space.specs.Closings.{AreAll, AreFreeMetasBlank, AreRunsUsed, EndsWith, HasOwnBook, IsEven, views_of}
+use Rattle.ng_space.specs.Closings.{AreAll, AreFreeMetasBlank, AreRunsUsed, EndsWith, HasOwnBook, IsClosed, IsEven, views_of}
 use Rattle.ng_space.proofs.Ended.{Ends, ends, ends_settled, ends_blank}
 use Rattle.ng_space.proofs.Gathering.{Gathered, all_numbers, all_even, own_books, views, whole_views}
 use Rattle.ng_space.proofs.Hosting.{hosted, hosted-parcel}
@@ -22,23 +22,20 @@ pub record IsLock (lock : View) : Type 0 where
   pub none_sent : lock.sent ≡ 0
   pub none_taken : lock.taken ≡ 0
 
-pub record IsClosed (key : Start) (ws : List ℕ) (lock : View) (hands : List Caller) : Type 0 where
-  pub ends : Ends key ws (views_of lock hands)
-  pub listing : Listing ws lock.desk
-  pub runs : AreRunsUsed ws lock.desk.layout
-  pub free : AreFreeMetasBlank ws lock.desk.layout
-  pub own : All HasOwnBook hands
-  pub whole : All (λ view. view.parcel ≡ false) (views_of lock hands)
-
-pub closes : (key : Start) (ws : List ℕ) (lock : View) (hands : List Caller) (v : View) (books : List Shown) → EndsWith key ws v → Gathered lock hands v books → IsLock lock → AreAll lock hands → IsEven hands → IsSettled lock → IsBlanked lock → IsClosed key ws lock hands
-closes key ws lock hands v books last in_all is all even settled blanked =
+pub closes : (key : Start) (ws : List ℕ) (lock : View) (hands : List Caller) (v : View) (books : List Shown) → EndsWith key ws v → Gathered lock hands v books → IsLock lock → (count : ℕ) → lock.desk.next ≡ 1 + count → AreAll count hands → IsEven hands → IsSettled lock → IsBlanked lock → IsClosed key ws lock hands
+closes key ws lock hands v books last in_all is count next all even settled blanked =
     let at : get_elem? last.views last.seat ≡ some (hosted lock (views hands)) = last.there ∙ ap some in_all.view in
-    let numbers = all_numbers lock hands all in_all.own in
+    let numbers = all_numbers lock count hands next all in_all.own in
     let evens = all_even lock hands even in_all.deskless is.none_sent is.none_taken in
     let whole = hosted-parcel lock (views hands) ∙ is.whole in
     let parts = ends key ws last.views last.seat lock (views hands) last.ruled at is.leads in_all.deskless numbers evens whole in record {
-      ends = parts;
+      slots = parts.slots;
+      words = parts.words;
       listing = subst (Listing ws) (ap (λ b. cond b lock.desk (desk_of (views hands))) is.leads) parts.listing;
+      excuses = parts.excuses;
+      history = parts.history;
+      knowledge = parts.knowledge;
+      classes = parts.classes;
       runs = ends_settled key ws last.views last.seat lock (views hands) last.ruled at is.leads in_all.deskless numbers evens whole settled;
       free = ends_blank key ws last.views last.seat lock (views hands) last.ruled at is.leads in_all.deskless numbers evens whole blanked;
       own = own_books hands in_all.own;

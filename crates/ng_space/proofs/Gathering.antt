@@ -102,9 +102,9 @@ total_views f [] = refl
 total_views f (h ∷ hs) = ap (λ (n : ℕ). f h.view + n) (total_views f hs)
 
 -- each number of a hand is there
-pub all_numbers : (lock : View) (hands : List Caller) → AreAll lock hands → AreOwn hands → (k : ℕ) → 0 < k → k < lock.desk.next → 1 ≤ total_by (numbered k) (lock ∷ views hands)
-all_numbers lock hands all own k some_hand below =
-    let h = all.each k some_hand below in
+pub all_numbers : (lock : View) (count : ℕ) (hands : List Caller) → lock.desk.next ≡ 1 + count → AreAll count hands → AreOwn hands → (k : ℕ) → 0 < k → k < lock.desk.next → 1 ≤ total_by (numbered k) (lock ∷ views hands)
+all_numbers lock count hands next all own k some_hand below =
+    let h = all.each k some_hand (omega arith) in
     let one : numbered k h.0.view ≡ 1 = subst (λ n. numbered n h.0.view ≡ 1) h.2 (own_number hands h.0 own h.1) in
     let there = total_by-among (numbered k) (views hands) h.0.view (among_views hands h.0 h.1) in omega arith
 

@@ -1,7 +1,6 @@
 -- The lock's seat after a group came to live, or ceased to.
 use Rattle.std.proofs.Common.{◌≡◌, ℕ, eqb, cond, Bool, true, false, List, [], ◌∷◌, refl, ap, ⊎_elim, inl, inr}
 use Rattle.std.specs.Prelude.{Option, Some, None}
-use Rattle.atomic_table.specs.Seated.{TableId}
 use Rattle.atomic_table.specs.declared.shared.Seat.{Seat}
 use Rattle.ng_history.specs.Book as book
 use Rattle.ng_rule.proofs.geometry.Lists.{among_append, among_without}
@@ -11,6 +10,7 @@ use Rattle.ng_view.specs.declared.view.Held.{Held}
 use Rattle.ng_view.specs.declared.view.Nest.{Nest}
 use Rattle.ng_view.specs.declared.view.View.{View}
 use Rattle.ng_view.specs.Groups.{MayPublish, Publishes, Retires, slot_published}
+use Rattle.ng_space.specs.Names.{Facts}
 use Rattle.ng_space.specs.Seats.{IsLockSeat}
 use Rattle.ng_space.proofs.Locked.{lock_stays, still-fetched}
 
@@ -29,14 +29,14 @@ carrier_free None h s = elim s [ ]
 carrier_free (Some n) h (inl e) = ap (λ (y : Held). y.block) e
 carrier_free (Some n) h (inr s) = elim s [ ]
 
-module _ (table : TableId) (s t : Seat (Unit {0}) View) (shelf : List book.Shown) (room : ℕ) (is : IsLockSeat table s shelf room) (same_table : t.table_id ≡ s.table_id) (same_slots : t.me.1 ≡ s.me.1) where
+module _ (facts : Facts) (s t : Seat (Unit {0}) View) (shelf : List book.Shown) (room : ℕ) (is : IsLockSeat facts s shelf room) (same_table : t.table_id ≡ s.table_id) (same_slots : t.me.1 ≡ s.me.1) where
   abbrev v : View
   v = s.me.0
 
-  pub publishes_stays : (meta class mask : ℕ) → MayPublish v meta class mask → Publishes v meta class mask t.me.0 → IsLockSeat table t shelf room
-  publishes_stays meta class mask (inl b) told = lock_stays table s t shelf room (run_published v b.group b.built.run.run mask b.freed) is same_table same_slots (told.run b)
+  pub publishes_stays : (meta class mask : ℕ) → MayPublish v meta class mask → Publishes v meta class mask t.me.0 → IsLockSeat facts t shelf room
+  publishes_stays meta class mask (inl b) told = lock_stays facts s t shelf room (run_published v b.group b.built.run.run mask b.freed) is same_table same_slots (told.run b)
       (record { leads = refl; parcel = refl; books = refl; sent = refl; taken = refl; next = refl; still = still-fetched b.group (select (moving b.group mask b.freed) 32) v.held })
-  publishes_stays meta class mask (inr b) told = lock_stays table s t shelf room (slot_published v b.slot b.group mask b.freed) is same_table same_slots (told.nested b) (record {
+  publishes_stays meta class mask (inr b) told = lock_stays facts s t shelf room (slot_published v b.slot b.group mask b.freed) is same_table same_slots (told.nested b) (record {
     leads = refl;
     parcel = refl;
     books = refl;
@@ -47,8 +47,8 @@ module _ (table : TableId) (s t : Seat (Unit {0}) View) (shelf : List book.Shown
         (still-fetched b.group (select (moving b.group mask b.freed) 32) (without p.group.meta p.index v.held) h q);
   })
 
-  pub retires_stays : (meta : ℕ) → Retires v meta t.me.0 → IsLockSeat table t shelf room
-  retires_stays meta told = lock_stays table s t shelf room (retired_nested v meta) is same_table same_slots told.view (record {
+  pub retires_stays : (meta : ℕ) → Retires v meta t.me.0 → IsLockSeat facts t shelf room
+  retires_stays meta told = lock_stays facts s t shelf room (retired_nested v meta) is same_table same_slots told.view (record {
     leads = refl;
     parcel = refl;
     books = refl;

@@ -1,7 +1,6 @@
 -- What holds of the lock's seat holds after its steps.
 use Rattle.std.proofs.Common.{◌≡◌, ◌⊎◌, ℕ, ◌≤◌, List, [], ◌∷◌, ◌++◌, map, sym, ap, ◌∙◌, subst, ⊎_elim, inl, inr}
 use Rattle.std.specs.Prelude.{None}
-use Rattle.atomic_table.specs.Seated.{TableId}
 use Rattle.atomic_table.specs.declared.shared.Seat.{Seat}
 use Rattle.ng_history.specs.Book as book
 use Rattle.ng_rule.proofs.geometry.Lists.{among_without}
@@ -11,6 +10,7 @@ use Rattle.ng_view.specs.Steps.{in_motion}
 use Rattle.ng_view.specs.declared.view.Group.{Group}
 use Rattle.ng_view.specs.declared.view.Held.{Held}
 use Rattle.ng_view.specs.declared.view.View.{View}
+use Rattle.ng_space.specs.Names.{Facts}
 use Rattle.ng_space.specs.Seats.{IsLockSeat}
 
 -- the slots of the view after are ones of the view before, or in motion
@@ -27,8 +27,8 @@ pub record IsAlike (v w : View) : Type 0 where
   pub next : w.desk.next ≡ v.desk.next
   pub still : AreStill v.held w.held
 
-pub lock_stays : (table : TableId) (s t : Seat (Unit {0}) View) (shelf : List book.Shown) (room : ℕ) (w : View) → IsLockSeat table s shelf room → t.table_id ≡ s.table_id → t.me.1 ≡ s.me.1 → t.me.0 ≡ w → IsAlike s.me.0 w → IsLockSeat table t shelf room
-lock_stays table s t shelf room w is same_table same_slots view alike = record {
+pub lock_stays : (facts : Facts) (s t : Seat (Unit {0}) View) (shelf : List book.Shown) (room : ℕ) (w : View) → IsLockSeat facts s shelf room → t.table_id ≡ s.table_id → t.me.1 ≡ s.me.1 → t.me.0 ≡ w → IsAlike s.me.0 w → IsLockSeat facts t shelf room
+lock_stays facts s t shelf room w is same_table same_slots view alike = record {
   fits = same_table ∙ is.fits;
   no_slots = same_slots ∙ is.no_slots;
   leads = ap (λ (v : View). v.leads) view ∙ alike.leads ∙ is.leads;
@@ -37,7 +37,8 @@ lock_stays table s t shelf room w is same_table same_slots view alike = record {
   none_sent = ap (λ (v : View). v.sent) view ∙ alike.sent ∙ is.none_sent;
   none_taken = ap (λ (v : View). v.taken) view ∙ alike.taken ∙ is.none_taken;
   moving = λ h q. ⊎_elim (λ (t : Among h s.me.0.held). is.moving h t) (λ (none : h.block ≡ None). none) (alike.still h (subst (λ (v : View). Among h v.held) view q));
-  few = subst (λ n. n ≤ 17) (sym (ap (λ (v : View). v.desk.next) view ∙ alike.next)) is.few;
+  next = ap (λ (v : View). v.desk.next) view ∙ alike.next ∙ is.next;
+  few = is.few;
   cleared = is.cleared;
   roomy = is.roomy;
 }

@@ -1,7 +1,6 @@
 -- The lock's seat after its loads and stores.
 use Rattle.std.proofs.Common.{◌≡◌, ℕ, ◌+◌, ◌%◌, cond, eqb, List, ◌∷◌, ◌++◌, refl, sym, subst, ⊎_elim, inl, inr}
 use Rattle.std.specs.Prelude.{None}
-use Rattle.atomic_table.specs.Seated.{TableId}
 use Rattle.atomic_table.specs.declared.shared.Seat.{Seat}
 use Rattle.ng_history.specs.Book as book
 use Rattle.ng_rule.proofs.geometry.Lists.{among_edit}
@@ -15,6 +14,7 @@ use Rattle.ng_view.specs.declared.view.View.{View}
 use Rattle.ng_view.specs.Loads.{Loads}
 use Rattle.ng_view.specs.Stores.{MayStore, Stores}
 use Rattle.ng_rule.proofs.lock.Deciding.{decide_builds, decide_mask}
+use Rattle.ng_space.specs.Names.{Facts}
 use Rattle.ng_space.specs.Seats.{IsLockSeat}
 use Rattle.ng_space.proofs.Locked.{IsAlike, lock_stays}
 
@@ -22,18 +22,18 @@ use Rattle.ng_space.proofs.Locked.{IsAlike, lock_stays}
 pub alike : (v w : View) → w.leads ≡ v.leads → w.parcel ≡ v.parcel → w.books ≡ v.books → w.sent ≡ v.sent → w.taken ≡ v.taken → w.desk.next ≡ v.desk.next → w.held ≡ v.held → IsAlike v w
 alike v w a b c d e f held = record { leads = a; parcel = b; books = c; sent = d; taken = e; next = f; still = λ h s. inl (subst (Among h) held s) }
 
-module _ (table : TableId) (s t : Seat (Unit {0}) View) (shelf : List book.Shown) (room : ℕ) (is : IsLockSeat table s shelf room) (same_table : t.table_id ≡ s.table_id) (same_slots : t.me.1 ≡ s.me.1) where
+module _ (facts : Facts) (s t : Seat (Unit {0}) View) (shelf : List book.Shown) (room : ℕ) (is : IsLockSeat facts s shelf room) (same_table : t.table_id ≡ s.table_id) (same_slots : t.me.1 ≡ s.me.1) where
   abbrev v : View
   v = s.me.0
 
   -- the slots are as before
-  pub quietly : (w : View) → t.me.0 ≡ w → w.leads ≡ v.leads → w.parcel ≡ v.parcel → w.books ≡ v.books → w.sent ≡ v.sent → w.taken ≡ v.taken → w.desk.next ≡ v.desk.next → w.held ≡ v.held → IsLockSeat table t shelf room
-  quietly w e a b c d x f held = lock_stays table s t shelf room w is same_table same_slots e (alike v w a b c d x f held)
+  pub quietly : (w : View) → t.me.0 ≡ w → w.leads ≡ v.leads → w.parcel ≡ v.parcel → w.books ≡ v.books → w.sent ≡ v.sent → w.taken ≡ v.taken → w.desk.next ≡ v.desk.next → w.held ≡ v.held → IsLockSeat facts t shelf room
+  quietly w e a b c d x f held = lock_stays facts s t shelf room w is same_table same_slots e (alike v w a b c d x f held)
 
-  ring : (ls ba bf : List ℕ) (sf : List (ℕ × ℕ)) (a n : ℕ) → t.me.0 ≡ read (ring_noted v ls ba bf sf) a n → IsLockSeat table t shelf room
+  ring : (ls ba bf : List ℕ) (sf : List (ℕ × ℕ)) (a n : ℕ) → t.me.0 ≡ read (ring_noted v ls ba bf sf) a n → IsLockSeat facts t shelf room
   ring ls ba bf sf a n e = quietly (read (ring_noted v ls ba bf sf) a n) e refl refl refl refl refl refl refl
 
-  pub looks_stays : (a n : ℕ) → Loads v a n t.me.0 → IsLockSeat table t shelf room
+  pub looks_stays : (a n : ℕ) → Loads v a n t.me.0 → IsLockSeat facts t shelf room
   looks_stays a n told = ⊎_elim
       (λ (b : Builds v a). quietly (read (learnt_free v a n) a n) (told.page b) refl refl refl refl refl refl refl)
       (λ (not : Builds v a → ⊥). ⊎_elim
@@ -45,12 +45,12 @@ module _ (table : TableId) (s t : Seat (Unit {0}) View) (shelf : List book.Shown
       (decide_mask v a 24))
       (decide_builds v a)
 
-  pub stores_stays : (a x : ℕ) → MayStore v a x → Stores v a x t.me.0 → IsLockSeat table t shelf room
+  pub stores_stays : (a x : ℕ) → MayStore v a x → Stores v a x t.me.0 → IsLockSeat facts t shelf room
   stores_stays a x (inl b) told = quietly (built v a x) (told.page b) refl refl refl refl refl refl refl
   stores_stays a x (inr (inl i)) told = quietly v (told.index i) refl refl refl refl refl refl refl
   stores_stays a x (inr (inr f)) told =
       let c = f.cell in let m = c.slot.place.group.meta in let i = c.slot.place.index in
-      lock_stays table s t shelf room (stored v m i a x) is same_table same_slots (told.slot c) (record {
+      lock_stays facts s t shelf room (stored v m i a x) is same_table same_slots (told.slot c) (record {
         leads = refl;
         parcel = refl;
         books = refl;

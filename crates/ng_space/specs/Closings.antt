@@ -1,12 +1,19 @@
 -- What a close asks of the seats, and what it tells of the last words.
-use Rattle.std.specs.Prelude.{◌≡◌, ◌⊎◌, ℕ, ◌+◌, ◌%◌, ◌<◌, true, List, [], ◌∷◌, length, map}
+use Rattle.std.specs.Prelude.{◌≡◌, ◌⊎◌, ℕ, ◌+◌, ◌%◌, ◌<◌, ◌≤◌, All, true, false, List, [], ◌∷◌, length, map}
 use mathlib.Core.Option.{some}
 use lib.ListN.{get_elem?}
 use Rattle.ng_history.specs.Book as book
 use Rattle.ng_view.specs.Cells.{cell, tag}
+use Rattle.ng_view.specs.Classes.{Classes}
+use Rattle.ng_view.specs.Excuses.{Excuses}
+use Rattle.ng_view.specs.History.{History}
+use Rattle.ng_view.specs.Knowledge.{Knowledge}
 use Rattle.ng_view.specs.Layouts.{InArea}
+use Rattle.ng_view.specs.Listing.{Listing}
 use Rattle.ng_view.specs.Lists.{Among, total_by}
 use Rattle.ng_view.specs.Rule.{Rule}
+use Rattle.ng_view.specs.Slots.{Slots}
+use Rattle.ng_view.specs.Words.{Words}
 use Rattle.ng_view.specs.declared.view.Layout.{Layout}
 use Rattle.ng_view.specs.declared.view.Run.{Run}
 use Rattle.ng_view.specs.declared.view.Start.{Start}
@@ -35,10 +42,10 @@ HasOwnBook hand = hand.view.books ≡ record { number = hand.number; entries = h
 abbrev pub HasNumber : List Caller → ℕ → Type 0
 HasNumber hands number = (hand : Caller) × Among hand hands × (hand.number ≡ number)
 
--- these are all the hands that were split off the lock's seat
-pub record AreAll (lock : View) (hands : List Caller) : Type 0 where
-  pub count : 1 + length hands ≡ lock.desk.next
-  pub each : (number : ℕ) → 0 < number → number < lock.desk.next → HasNumber hands number
+-- these are all the hands of a heap that has so many
+pub record AreAll (count : ℕ) (hands : List Caller) : Type 0 where
+  pub many : length hands ≡ count
+  pub each : (number : ℕ) → 0 < number → number ≤ count → HasNumber hands number
 
 -- no parcel is out: what the hands sent out they took in
 abbrev pub IsEven : List Caller → Type 0
@@ -67,3 +74,18 @@ AreRunsUsed ws d = (r : Run) → Among r d.runs → (r.area ≡ true) ⊎ IsGrou
 abbrev pub AreFreeMetasBlank : List ℕ → Layout → Type 0
 AreFreeMetasBlank ws d = (m b : ℕ) → m % 4 ≡ 0 → InArea d m → tag ws m ≡ 0
     → b < 40 → b % 4 ≡ 0 → cell ws (m + b) ≡ 0
+
+-- the parts of the rule hold of the last words and of what the seats knew at the end; nothing of the lock's seat is
+-- left half done; each hand has its own book, and no seat is a parcel's
+pub record IsClosed (key : Start) (ws : List ℕ) (lock : View) (hands : List Caller) : Type 0 where
+  pub slots : Slots ws (views_of lock hands)
+  pub words : Words key ws (views_of lock hands)
+  pub listing : Listing ws lock.desk
+  pub excuses : Excuses key (views_of lock hands)
+  pub history : History key (views_of lock hands)
+  pub knowledge : Knowledge ws (views_of lock hands)
+  pub classes : Classes (views_of lock hands)
+  pub runs : AreRunsUsed ws lock.desk.layout
+  pub free : AreFreeMetasBlank ws lock.desk.layout
+  pub own : All HasOwnBook hands
+  pub whole : All (λ (view : View). view.parcel ≡ false) (views_of lock hands)

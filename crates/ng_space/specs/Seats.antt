@@ -1,5 +1,5 @@
 -- What holds of the seats of hands and of the lock. No public clause cites this module.
-use Rattle.std.specs.Prelude.{◌≡◌, ℕ, ◌≤◌, true, false, List, [], ◌∷◌, None}
+use Rattle.std.specs.Prelude.{◌≡◌, ℕ, ◌+◌, ◌≤◌, true, false, List, [], ◌∷◌, None}
 use Rattle.atomic_table.specs.Seated.{TableId}
 use Rattle.atomic_table.specs.declared.shared.Seat.{Seat}
 use Rattle.ng_history.specs.Book as book
@@ -7,6 +7,7 @@ use Rattle.ng_view.specs.Lists.{Among}
 use Rattle.ng_view.specs.Views.{no_desk}
 use Rattle.ng_view.specs.declared.view.Held.{Held}
 use Rattle.ng_view.specs.declared.view.View.{View}
+use Rattle.ng_space.specs.Names.{Facts}
 
 -- the seat of a hand with that book
 pub record IsCaller (table : TableId) (seat : Seat (Unit {0}) View) (b : book.Shown) : Type 0 where
@@ -17,9 +18,9 @@ pub record IsCaller (table : TableId) (seat : Seat (Unit {0}) View) (b : book.Sh
   pub deskless : seat.me.0.desk ≡ no_desk
   pub own_book : seat.me.0.books ≡ record { number = b.number; entries = b.entries } ∷ []
 
--- the seat of the lock, of a heap with at most 16 hands
-pub record IsLockSeat (table : TableId) (seat : Seat (Unit {0}) View) (shelf : List book.Shown) (shelf_room : ℕ) : Type 0 where
-  pub fits : seat.table_id ≡ table
+-- the seat of the lock, off which all hands of the heap were split, at most 16
+pub record IsLockSeat (facts : Facts) (seat : Seat (Unit {0}) View) (shelf : List book.Shown) (shelf_room : ℕ) : Type 0 where
+  pub fits : seat.table_id ≡ facts.table
   pub no_slots : seat.me.1 ≡ []
   pub leads : seat.me.0.leads ≡ true
   pub whole : seat.me.0.parcel ≡ false
@@ -27,6 +28,7 @@ pub record IsLockSeat (table : TableId) (seat : Seat (Unit {0}) View) (shelf : L
   pub none_sent : seat.me.0.sent ≡ 0
   pub none_taken : seat.me.0.taken ≡ 0
   pub moving : (h : Held) → Among h seat.me.0.held → h.block ≡ None
-  pub few : seat.me.0.desk.next ≤ 17
+  pub next : seat.me.0.desk.next ≡ 1 + facts.hands
+  pub few : facts.hands ≤ 16
   pub cleared : shelf ≡ []
   pub roomy : 16 ≤ shelf_room

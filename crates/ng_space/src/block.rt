@@ -57,7 +57,7 @@ impl<N: Name> Block<N> {
     pub fn gap(&self) -> u64
         ensures gap { self.now.at + result ≡ self.now.slot.end }
         ensures enough { self.now.len ≤ result }
-        ensures below { self.now.slot.end + 4 ≤ 4096 * N.start.pages }
+        ensures below { self.now.slot.end + 4 ≤ 4096 * N.facts.start.pages }
     {
         self.slot.end() - self.at
     }
@@ -65,7 +65,7 @@ impl<N: Name> Block<N> {
     /// The address of the meta of its slot's group.
     pub fn meta(&self) -> u64
         ensures meta { result ≡ self.now.slot.meta }
-        ensures place { IsMetaPlace result N.start.pages }
+        ensures place { IsMetaPlace result N.facts.start.pages }
     {
         self.slot.meta()
     }

@@ -19,9 +19,9 @@ impl<N: Name> Space<N> {
         _meta: u64,
         _bits: u64,
     ) -> u64
-        requires fits { seat.old.table_id ≡ N.table }
-        requires inside { addr < 4096 * N.start.pages }
-        requires may { May N.start seat.old.id seat.old.me.0 (addr / 4) (λ n. bit_and n kept) T.told }
+        requires fits { seat.old.table_id ≡ N.facts.table }
+        requires inside { addr < 4096 * N.facts.start.pages }
+        requires may { May N.facts.start seat.old.id seat.old.me.0 (addr / 4) (λ n. bit_and n kept) T.told }
         ensures told { T.told seat.old.me.0 result seat.new.me.0 }
         ensures table { seat.new.table_id ≡ seat.old.table_id }
         ensures slots { seat.new.me.1 ≡ seat.old.me.1 }
@@ -39,9 +39,9 @@ impl<N: Name> Space<N> {
         _meta: u64,
         _bits: u64,
     ) -> u64
-        requires fits { seat.old.table_id ≡ N.table }
-        requires inside { addr < 4096 * N.start.pages }
-        requires may { May N.start seat.old.id seat.old.me.0 (addr / 4) (λ n. bit_or n added) T.told }
+        requires fits { seat.old.table_id ≡ N.facts.table }
+        requires inside { addr < 4096 * N.facts.start.pages }
+        requires may { May N.facts.start seat.old.id seat.old.me.0 (addr / 4) (λ n. bit_or n added) T.told }
         ensures told { T.told seat.old.me.0 result seat.new.me.0 }
         ensures table { seat.new.table_id ≡ seat.old.table_id }
         ensures slots { seat.new.me.1 ≡ seat.old.me.1 }

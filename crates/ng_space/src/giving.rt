@@ -141,10 +141,10 @@ impl<N: Name> Space<N> {
         _number: u32,
         _entry: &Entry,
     )
-        requires fits { seat.old.table_id ≡ N.table }
+        requires fits { seat.old.table_id ≡ N.facts.table }
         requires behind { 4 ≤ at }
-        requires inside { at < 4096 * N.start.pages }
-        requires may { May N.start seat.old.id seat.old.me.0 ((at - 4) / 4)
+        requires inside { at < 4096 * N.facts.start.pages }
+        requires may { May N.facts.start seat.old.id seat.old.me.0 ((at - 4) / 4)
             (λ n. header) (λ before n after. T.told before header after) }
         ensures told { T.told seat.old.me.0 header seat.new.me.0 }
         ensures table { seat.new.table_id ≡ seat.old.table_id }
@@ -159,7 +159,7 @@ impl<N: Name> Slot<N> {
     fn place(&self) -> (u64, u32)
         ensures meta { result.0 ≡ self.now.meta }
         ensures index { result.1 ≡ self.now.index }
-        ensures token { IsToken N.start self.now }
+        ensures token { IsToken N.facts.start self.now }
     {
         (self.meta, self.index)
     }
@@ -169,7 +169,7 @@ impl<N: Name> Slot<N> {
         requires from { self.now.start ≤ at }
         requires within { at + n ≤ self.now.end }
         ensures value { result ≡ header_at self.now at n }
-        ensures token { IsToken N.start self.now }
+        ensures token { IsToken N.facts.start self.now }
     {
         let offset = ((at - self.storage) / 16) as u32;
         let reserved = (self.end - at - n).min(5) as u32;

@@ -29,7 +29,7 @@ impl<N: Name> Model for Hand<N> {
       entries = hand.book.entries;
     } };
 
-    ghost invariant = { λ hand. IsCaller N.table hand.seat hand.book };
+    ghost invariant = { λ hand. IsCaller N.facts.table hand.seat hand.book };
 }
 
 impl<N: Name> Hand<N> {

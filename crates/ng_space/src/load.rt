@@ -22,10 +22,10 @@ impl<N: Name> Space<N> {
     /// own slots is known from then on, and what the rule ties to the word is told.
     pub fn load(&self, hand: &mut Hand<N>, addr: u64) -> u64
         requires cell { addr % 4 ≡ 0 }
-        requires inside { addr < 4096 * N.start.pages }
+        requires inside { addr < 4096 * N.facts.start.pages }
         ensures view { hand.new.view ≡ loaded hand.old.view addr result }
-        ensures told { Tells N.start hand.old.view addr result }
-        ensures placed { ArePlaced N.start hand.old.view }
+        ensures told { Tells N.facts.start hand.old.view addr result }
+        ensures placed { ArePlaced N.facts.start hand.old.view }
         ensures once { AreOnce hand.old.view }
         ensures slots { (slot : Token) → HasSlot hand.old slot → HasSlot hand.new slot }
         ensures blocks { (block : BlockToken) → HasBlock hand.old block → HasBlock hand.new block }
@@ -58,8 +58,8 @@ impl<N: Name> Space<N> {
         _number: u32,
         _entry: &Entry,
     )
-        requires fits { seat.old.table_id ≡ N.table }
-        requires may { May N.start seat.old.id seat.old.me.0 (0 / 4) (λ n. n) T.told }
+        requires fits { seat.old.table_id ≡ N.facts.table }
+        requires may { May N.facts.start seat.old.id seat.old.me.0 (0 / 4) (λ n. n) T.told }
         ensures told { (found : ℕ) × T.told seat.old.me.0 found seat.new.me.0 }
         ensures table { seat.new.table_id ≡ seat.old.table_id }
         ensures slots { seat.new.me.1 ≡ seat.old.me.1 }

@@ -22,5 +22,5 @@ impl<N: Name> Model for LockSeat<N> {
 
     ghost view = { λ lock. lock.seat.me.0 };
 
-    ghost invariant = { λ lock. IsLockSeat N.table lock.seat lock.shelf.items (vec_capacity lock.shelf) };
+    ghost invariant = { λ lock. IsLockSeat N.facts lock.seat lock.shelf.items (vec_capacity lock.shelf) };
 }

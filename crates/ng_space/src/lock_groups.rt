@@ -18,7 +18,7 @@ impl<N: Name> Space<N> {
     /// mask. The slots in neither mask are in the seat, in motion; the meta is listed, and a mask of 0
     /// is noted. A nested group is carried by its slot from then on.
     pub fn publish(&self, seat: &mut LockSeat<N>, meta: u64, class: u32, mask: u32)
-        requires place { IsMetaPlace meta N.start.pages }
+        requires place { IsMetaPlace meta N.facts.start.pages }
         requires built { MayPublish seat.old meta class mask }
         ensures { Publishes seat.old meta class mask seat.new }
     {
@@ -35,10 +35,10 @@ impl<N: Name> Space<N> {
         _class: u32,
         mask: u32,
     )
-        requires fits { seat.old.table_id ≡ N.table }
-        requires inside { meta + 24 < 4096 * N.start.pages }
-        requires pages { N.start.pages ≤ 16384 }
-        requires may { May N.start seat.old.id seat.old.me.0 ((meta + 24) / 4) (λ n. word) (λ before n after. T.told before word after) }
+        requires fits { seat.old.table_id ≡ N.facts.table }
+        requires inside { meta + 24 < 4096 * N.facts.start.pages }
+        requires pages { N.facts.start.pages ≤ 16384 }
+        requires may { May N.facts.start seat.old.id seat.old.me.0 ((meta + 24) / 4) (λ n. word) (λ before n after. T.told before word after) }
         ensures told { T.told seat.old.me.0 word seat.new.me.0 }
         ensures table { seat.new.table_id ≡ seat.old.table_id }
         ensures slots { seat.new.me.1 ≡ seat.old.me.1 }
@@ -49,7 +49,7 @@ impl<N: Name> Space<N> {
     /// Ends a group, of which every slot is in the seat, in motion. Its cells and those of its meta are
     /// the seat's to clear; the slot that carried it is in motion again.
     pub fn retire(&self, seat: &mut LockSeat<N>, meta: u64)
-        requires place { IsMetaPlace meta N.start.pages }
+        requires place { IsMetaPlace meta N.facts.start.pages }
         requires slots { HasAllSlots seat.old meta }
         ensures { Retires seat.old meta seat.new }
     {

@@ -19,7 +19,7 @@ impl<N: Name> Space<N> {
     /// Reads the freed mask of a live group, which is the answer, and notes where the group stands:
     /// listed in a ring, or, where both its masks are 0, no more listed.
     pub fn note_ring(&self, seat: &mut LockSeat<N>, meta: u64, listed: bool) -> u32
-        requires place { IsMetaPlace meta N.start.pages }
+        requires place { IsMetaPlace meta N.facts.start.pages }
         requires live { HasGroup seat.old meta }
         ensures { NotesRing seat.old meta listed result seat.new }
     {
@@ -29,7 +29,7 @@ impl<N: Name> Space<N> {
     /// Notes that a run of pages came, whose cells are 0, or that it goes, where the seat knows all its
     /// cells to be 0.
     pub fn note_run(&self, seat: &mut LockSeat<N>, addr: u64, pages: u64, live: bool)
-        requires run { MayNoteRun N.start seat.old addr pages live }
+        requires run { MayNoteRun N.facts.start seat.old addr pages live }
         ensures { NotesRun seat.old addr pages live seat.new }
     {
         self.note_told::<Brand>(&mut seat.seat, addr, pages, live)
@@ -38,7 +38,7 @@ impl<N: Name> Space<N> {
     /// Notes that the run of one page at an address is an area of metas, whose cells the seat knows. The
     /// cells of its metas stay the seat's to build.
     pub fn note_area(&self, seat: &mut LockSeat<N>, addr: u64)
-        requires built { AreaBuilt N.start seat.old (plain_run addr 1) }
+        requires built { AreaBuilt N.facts.start seat.old (plain_run addr 1) }
         ensures { NotesArea seat.old addr seat.new }
     {
         self.note_told::<Brand>(&mut seat.seat, addr, 1, true)
@@ -60,9 +60,9 @@ impl<N: Name> Space<N> {
         _meta: u64,
         _listed: bool,
     ) -> u64
-        requires fits { seat.old.table_id ≡ N.table }
-        requires inside { addr < 4096 * N.start.pages }
-        requires may { May N.start seat.old.id seat.old.me.0 (addr / 4) (λ n. n) T.told }
+        requires fits { seat.old.table_id ≡ N.facts.table }
+        requires inside { addr < 4096 * N.facts.start.pages }
+        requires may { May N.facts.start seat.old.id seat.old.me.0 (addr / 4) (λ n. n) T.told }
         ensures told { T.told seat.old.me.0 result seat.new.me.0 }
         ensures table { seat.new.table_id ≡ seat.old.table_id }
         ensures slots { seat.new.me.1 ≡ seat.old.me.1 }
@@ -78,8 +78,8 @@ impl<N: Name> Space<N> {
         _number: u64,
         _live: bool,
     )
-        requires fits { seat.old.table_id ≡ N.table }
-        requires may { May N.start seat.old.id seat.old.me.0 (0 / 4) (λ n. n) T.told }
+        requires fits { seat.old.table_id ≡ N.facts.table }
+        requires may { May N.facts.start seat.old.id seat.old.me.0 (0 / 4) (λ n. n) T.told }
         ensures told { (found : ℕ) × T.told seat.old.me.0 found seat.new.me.0 }
         ensures table { seat.new.table_id ≡ seat.old.table_id }
         ensures slots { seat.new.me.1 ≡ seat.old.me.1 }

@@ -14,7 +14,7 @@ impl<N: Name> Space<N> {
     /// group's masks it is noted that they are 0, and which freed bits are set.
     pub fn load_seat(&self, seat: &mut LockSeat<N>, addr: u64) -> u64
         requires cell { addr % 4 ≡ 0 }
-        requires inside { addr < 4096 * N.start.pages }
+        requires inside { addr < 4096 * N.facts.start.pages }
         ensures view { Loads seat.old addr result seat.new }
         ensures told { TellsGroups seat.old addr result }
         ensures slots { AreOfGroups seat.old }
@@ -25,7 +25,7 @@ impl<N: Name> Space<N> {
     /// Stores a number in a cell that the seat builds or clears, in the active index of a live group,
     /// or in a slot in motion, where a header gets a low byte of 0.
     pub fn store_page(&self, seat: &mut LockSeat<N>, addr: u64, value: u32)
-        requires inside { addr < 4096 * N.start.pages }
+        requires inside { addr < 4096 * N.facts.start.pages }
         requires may { MayStore seat.old addr value }
         ensures { Stores seat.old addr value seat.new }
     {

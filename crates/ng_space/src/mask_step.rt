@@ -35,7 +35,7 @@ impl<N: Name> Space<N> {
     /// Clears the lowest set bit of a meta's avail mask, where its avail word is still as it was
     /// seen, and the slot of that bit is in the hand. Where the word isn't, it comes back.
     pub fn pop_step(&self, hand: &mut Hand<N>, meta: u64, seen: u64) -> Result<Slot<N>, u64>
-        requires place { IsMetaPlace meta N.start.pages }
+        requires place { IsMetaPlace meta N.facts.start.pages }
         requires tag { 0 < seen / 2 ^ 32 }
         requires mask { 0 < seen % 2 ^ 32 }
         ensures meta { IfOk result (λ slot. slot.meta ≡ meta) }
@@ -62,7 +62,7 @@ impl<N: Name> Space<N> {
 
     // The slot, once its meta's mem and flags are loaded.
     pub(crate) fn slot_at(&self, hand: &mut Hand<N>, meta: u64, index: u32) -> Slot<N>
-        requires place { IsMetaPlace meta N.start.pages }
+        requires place { IsMetaPlace meta N.facts.start.pages }
         requires free { HasFree hand.old.view meta index }
         ensures view { Looks hand.old.view meta hand.new.view }
         ensures meta { result.meta ≡ meta }

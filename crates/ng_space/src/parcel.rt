@@ -3,6 +3,7 @@ ghost use Rattle.ng_view.specs.Cuts.{Cut};
 ghost use Rattle.ng_view.specs.Lists.{find};
 ghost use Rattle.ng_view.specs.Steps.{split_off, taken_in};
 ghost use Rattle.ng_space.specs.Blocks.{HasFramed};
+ghost use Rattle.ng_space.specs.Packed.{IsPacked};
 ghost use Rattle.ng_space.specs.Parcels.{IsOfOneSlot, sent_with, taken_by};
 
 use crate::block::Block;
@@ -30,7 +31,21 @@ impl<N: Name> Model for Parcel<N> {
 
     ghost view = { λ parcel. record { view = parcel.seat.me.0; block = parcel.block } };
 
-    ghost invariant = { λ parcel. IsPacked N.table parcel.seat parcel.block };
+    ghost invariant = { λ parcel. IsPacked N.facts.table parcel.seat parcel.block };
+}
+
+impl<N: Name> Drop for Parcel<N> {
+    /// The block stays live with nobody.
+    fn drop(self) {
+        let Parcel { seat: _, block } = self;
+        let Block {
+            slot,
+            at: _,
+            len: _,
+            align: _,
+        } = block;
+        slot.leave();
+    }
 }
 
 impl<N: Name> Parcel<N> {
@@ -39,6 +54,16 @@ impl<N: Name> Parcel<N> {
         ensures { result ≡ self.now.block.at }
     {
         self.block.at()
+    }
+
+    // Its seat and its block.
+    fn into_parts(self) -> (Seat<(), View>, Block<N>)
+        ensures view { result.0.me.0 ≡ self.view }
+        ensures block { result.1 ≡ self.block }
+        ensures packed { IsPacked N.facts.table result.0 result.1 }
+    {
+        let Parcel { seat, block } = self;
+        (seat, block)
     }
 }
 
@@ -70,7 +95,7 @@ impl<N: Name> Space<N> {
         ensures entries { hand.new.entries ≡ hand.old.entries }
     {
         let number = hand.book.number();
-        let Parcel { seat, block } = parcel;
+        let (seat, block) = parcel.into_parts();
         self.take_in::<Brand>(&mut hand.seat, seat);
         let Block {
             slot,
@@ -88,7 +113,7 @@ impl<N: Name> Space<N> {
 
     // The slot of that meta and index goes into a seat of its own, as `C` picks.
     fn send<C: Passing>(&self, seat: &mut Seat<(), View>, _meta: u64, _index: u32) -> Seat<(), View>
-        requires fits { seat.old.table_id ≡ N.table }
+        requires fits { seat.old.table_id ≡ N.facts.table }
         requires cut { Cut seat.old.me.0 C.left C.right }
         ensures left { seat.new.me ≡ (C.left, seat.old.me.1) }
         ensures right { result.me ≡ (C.right, []) }

@@ -33,7 +33,7 @@ impl<N: Name> Space<N> {
         meta: u64,
         index: u32,
     ) -> Slot<N>
-        requires place { IsMetaPlace meta N.start.pages }
+        requires place { IsMetaPlace meta N.facts.start.pages }
         requires slot { HasInMotion seat.old meta index }
         ensures seat { seat.new ≡ pushed seat.old meta index }
         ensures view { Looks (with_slot hand.old.view (find meta index seat.old.held)) meta hand.new.view }
@@ -102,8 +102,8 @@ impl<N: Name> Space<N> {
         own: &mut Seat<(), View>,
         _number: u64,
     )
-        requires lock { lock.old.table_id ≡ N.table }
-        requires own { (own.old.table_id ≡ N.table) × (own.old.me.1 ≡ []) }
+        requires lock { lock.old.table_id ≡ N.facts.table }
+        requires own { (own.old.table_id ≡ N.facts.table) × (own.old.me.1 ≡ []) }
         requires merge { Merge lock.old.me.0 own.old.me.0 C.both spent }
         requires cut { Cut C.both C.left C.right }
         ensures lock { lock.new.me ≡ (C.left, lock.old.me.1) }
@@ -122,8 +122,8 @@ impl<N: Name> Space<N> {
         _meta: u64,
         _index: u32,
     )
-        requires lock { lock.old.table_id ≡ N.table }
-        requires own { (own.old.table_id ≡ N.table) × (own.old.me.1 ≡ []) }
+        requires lock { lock.old.table_id ≡ N.facts.table }
+        requires own { (own.old.table_id ≡ N.facts.table) × (own.old.me.1 ≡ []) }
         requires merge { Merge lock.old.me.0 own.old.me.0 C.both spent }
         requires cut { Cut C.both C.left C.right }
         ensures lock { lock.new.me ≡ (C.left, lock.old.me.1) }

@@ -40,7 +40,7 @@ impl<N: Name> Model for Slot<N> {
       hand = slot.hand;
     } };
 
-    ghost invariant = { λ slot. IsToken N.start (record {
+    ghost invariant = { λ slot. IsToken N.facts.start (record {
       meta = slot.meta;
       index = slot.index;
       storage = slot.storage;
@@ -55,7 +55,7 @@ impl<N: Name> Slot<N> {
     /// The address of the meta of the slot's group.
     pub fn meta(&self) -> u64
         ensures meta { result ≡ self.now.meta }
-        ensures place { IsMetaPlace result N.start.pages }
+        ensures place { IsMetaPlace result N.facts.start.pages }
     {
         self.meta
     }
@@ -78,7 +78,7 @@ impl<N: Name> Slot<N> {
     /// The address behind the slot's last byte, where the next slot's header cell is.
     pub fn end(&self) -> u64
         ensures end { result ≡ self.now.end }
-        ensures below { result + 4 ≤ 4096 * N.start.pages }
+        ensures below { result + 4 ≤ 4096 * N.facts.start.pages }
     {
         self.end
     }
@@ -125,8 +125,8 @@ impl<N: Name> Slot<N> {
 
     /// The slot of an index, by what its meta says.
     pub(crate) fn new(meta: u64, index: u32, base: u64, flags: u32, hand: u32) -> Slot<N>
-        requires place { (p : Place) × IsRead p meta index base flags × LiesIn N.start p }
-        requires pages { N.start.pages ≤ 16384 }
+        requires place { (p : Place) × IsRead p meta index base flags × LiesIn N.facts.start p }
+        requires pages { N.facts.start.pages ≤ 16384 }
         ensures meta { result.meta ≡ meta }
         ensures index { result.index ≡ index }
         ensures hand { result.hand ≡ hand }

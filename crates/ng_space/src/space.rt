@@ -20,11 +20,11 @@ pub struct Space<N: Name> {
     pub(crate) table: Table<(), View, Start, Law, Global>,
     pub(crate) start: Start,
     pub(crate) of: PhantomData<N>,
-    ghost named: { table.shared.table_id ≡ N.table },
-    ghost ruled: { table.shared.key ≡ N.start },
-    ghost started: { start ≡ N.start },
-    ghost range: { InRange N.start },
-    ghost words: { table.shared.table_id.words ≡ 1024 * N.start.pages },
+    ghost named: { table.shared.table_id ≡ N.facts.table },
+    ghost ruled: { table.shared.key ≡ N.facts.start },
+    ghost started: { start ≡ N.facts.start },
+    ghost range: { InRange N.facts.start },
+    ghost words: { table.shared.table_id.words ≡ 1024 * N.facts.start.pages },
     ghost slots: { table.shared.table_id.slots ≡ 0 },
 }
 
@@ -32,9 +32,10 @@ impl<N: Name> Space<N> {
     /// Gives the heap its name: its cells, the seat for its lock, and a hand for each book, numbered
     /// from 1 on. All cells are 0. Only the list of hands takes memory.
     pub fn open(alloc: Global, blank: Blank) -> Result<(Space<N>, LockSeat<N>, Vec<Hand<N>>), Host>
-        requires table { blank.table ≡ N.table }
-        requires start { blank.start ≡ N.start }
-        ensures lock { IfOk result (λ made. made.1 ≡ opened N.start (length blank.rooms)) }
+        requires table { blank.table ≡ N.facts.table }
+        requires start { blank.start ≡ N.facts.start }
+        requires hands { length blank.rooms ≡ N.facts.hands }
+        ensures lock { IfOk result (λ made. made.1 ≡ opened N.facts.start N.facts.hands) }
         ensures hands { IfOk result (λ made. made.2.items ≡ fresh_callers 1 blank.rooms) }
     {
         let Blank {
@@ -65,7 +66,7 @@ impl<N: Name> Space<N> {
 
     // The next hand is split off the lock's seat.
     fn next_hand(&self, seat: &mut Seat<(), View>, book: Book) -> Hand<N>
-        requires fits { seat.old.table_id ≡ N.table }
+        requires fits { seat.old.table_id ≡ N.facts.table }
         requires leads { seat.old.me.0.leads ≡ true }
         requires next { seat.old.me.0.desk.next ≡ book.number }
         requires fresh { book.entries ≡ [] }
@@ -83,14 +84,14 @@ impl<N: Name> Space<N> {
 
     /// What the heap started with.
     pub fn start(&self) -> &Start
-        ensures { result.now ≡ N.start }
+        ensures { result.now ≡ N.facts.start }
     {
         &self.start
     }
 
     /// How many pages of 4096 bytes the space has.
     pub fn pages(&self) -> u32
-        ensures pages { result ≡ N.start.pages }
+        ensures pages { result ≡ N.facts.start.pages }
         ensures few { result ≤ 16384 }
     {
         self.start.pages as u32

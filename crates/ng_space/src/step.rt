@@ -16,9 +16,9 @@ const CELL: u64 = 4;
 
 impl<N: Name> Space<N> {
     pub(crate) fn load_told<T: Telling>(&self, seat: &mut Seat<(), View>, addr: u64) -> u64
-        requires fits { seat.old.table_id ≡ N.table }
-        requires inside { addr < 4096 * N.start.pages }
-        requires may { May N.start seat.old.id seat.old.me.0 (addr / 4) (λ n. n) T.told }
+        requires fits { seat.old.table_id ≡ N.facts.table }
+        requires inside { addr < 4096 * N.facts.start.pages }
+        requires may { May N.facts.start seat.old.id seat.old.me.0 (addr / 4) (λ n. n) T.told }
         ensures told { T.told seat.old.me.0 result seat.new.me.0 }
         ensures table { seat.new.table_id ≡ seat.old.table_id }
         ensures slots { seat.new.me.1 ≡ seat.old.me.1 }
@@ -36,9 +36,9 @@ impl<N: Name> Space<N> {
         _meta: u64,
         _index: u32,
     )
-        requires fits { seat.old.table_id ≡ N.table }
-        requires inside { addr < 4096 * N.start.pages }
-        requires may { May N.start seat.old.id seat.old.me.0 (addr / 4)
+        requires fits { seat.old.table_id ≡ N.facts.table }
+        requires inside { addr < 4096 * N.facts.start.pages }
+        requires may { May N.facts.start seat.old.id seat.old.me.0 (addr / 4)
             (λ n. value) (λ before n after. T.told before value after) }
         ensures told { T.told seat.old.me.0 value seat.new.me.0 }
         ensures table { seat.new.table_id ≡ seat.old.table_id }
@@ -58,9 +58,9 @@ impl<N: Name> Space<N> {
         _meta: u64,
         _index: u32,
     ) -> u64
-        requires fits { seat.old.table_id ≡ N.table }
-        requires inside { addr < 4096 * N.start.pages }
-        requires may { May N.start seat.old.id seat.old.me.0 (addr / 4) (λ n. either (n == old) new n) T.told }
+        requires fits { seat.old.table_id ≡ N.facts.table }
+        requires inside { addr < 4096 * N.facts.start.pages }
+        requires may { May N.facts.start seat.old.id seat.old.me.0 (addr / 4) (λ n. either (n == old) new n) T.told }
         ensures told { T.told seat.old.me.0 result seat.new.me.0 }
         ensures table { seat.new.table_id ≡ seat.old.table_id }
         ensures slots { seat.new.me.1 ≡ seat.old.me.1 }
@@ -71,8 +71,8 @@ impl<N: Name> Space<N> {
     }
 
     pub(crate) fn split_off<C: Passing>(&self, seat: &mut Seat<(), View>) -> Seat<(), View>
-        requires fits { seat.old.table_id ≡ N.table }
-        requires allowed { MaySplit N.start seat.old.id seat.old.me.0 C.left C.right }
+        requires fits { seat.old.table_id ≡ N.facts.table }
+        requires allowed { MaySplit N.facts.start seat.old.id seat.old.me.0 C.left C.right }
         ensures left { seat.new.me.0 ≡ C.left }
         ensures right { result.me.0 ≡ C.right }
         ensures tables { (seat.new.table_id ≡ seat.old.table_id) × (result.table_id ≡ seat.old.table_id) }
@@ -82,7 +82,7 @@ impl<N: Name> Space<N> {
     }
 
     pub(crate) fn take_in<C: Passing>(&self, seat: &mut Seat<(), View>, other: Seat<(), View>)
-        requires fits { (seat.old.table_id ≡ N.table) × (other.table_id ≡ N.table) × (other.me.1 ≡ []) }
+        requires fits { (seat.old.table_id ≡ N.facts.table) × (other.table_id ≡ N.facts.table) × (other.me.1 ≡ []) }
         requires allowed { Merge seat.old.me.0 other.me.0 C.both spent }
         ensures both { seat.new.me.0 ≡ C.both }
         ensures table { seat.new.table_id ≡ seat.old.table_id }

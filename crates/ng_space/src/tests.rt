@@ -49,10 +49,11 @@ fn a_refusal_is_entered(rt: HostRuntime) -> Result<(), Fail> {
 }
 
 fn enter_once<N: Name, R: Abort>(rt: &R, alloc: Global, blank: Blank) -> Result<(), Fail>
-    requires table { blank.table ≡ N.table }
-    requires start { blank.start ≡ N.start }
+    requires table { blank.table ≡ N.facts.table }
+    requires start { blank.start ≡ N.facts.start }
     requires pages { blank.start.pages ≡ PAGES }
     requires rooms { blank.rooms ≡ 4 ∷ [] }
+    requires hands { N.facts.hands ≡ 1 }
 {
     let (space, lock, mut hands) = Space::<N>::open(alloc, blank)?;
     assert_eq!(rt; space.pages(), 16);
@@ -90,10 +91,11 @@ fn enter_in_two<N: Name + Send + Sync, R: Threads + Wait + Abort + Sync>(
     alloc: Global,
     blank: Blank,
 ) -> Result<(), Fail>
-    requires table { blank.table ≡ N.table }
-    requires start { blank.start ≡ N.start }
+    requires table { blank.table ≡ N.facts.table }
+    requires start { blank.start ≡ N.facts.start }
     requires pages { blank.start.pages ≡ PAGES }
     requires rooms { blank.rooms ≡ 2 ∷ 1 ∷ [] }
+    requires hands { N.facts.hands ≡ 2 }
 {
     let (space, lock, hands) = Space::<N>::open(alloc, blank)?;
     let (first, second) = two_hands(hands);

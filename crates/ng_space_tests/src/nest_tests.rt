@@ -23,7 +23,7 @@ const INNER_FLAGS: u32 = 14 + (1 << 5) + (1 << 6);
 
 // The cells of the inner group come into the slot, which is in motion.
 fn write_slot<N: Name>(space: &Space<N>, seat: &mut LockSeat<N>)
-    requires start { N.start ≡ trial_start }
+    requires start { N.facts.start ≡ trial_start }
     requires stands { Stands seat.old page_runs (outer_group ∷ []) }
     requires metas { AreMetasBlank seat.old 1 }
     requires slots { HasSlots seat.old [] }
@@ -38,7 +38,7 @@ fn write_slot<N: Name>(space: &Space<N>, seat: &mut LockSeat<N>)
 
 // The slot carries the inner group then, whose slots are all in motion.
 fn build_inner<N: Name>(space: &Space<N>, seat: &mut LockSeat<N>)
-    requires start { N.start ≡ trial_start }
+    requires start { N.facts.start ≡ trial_start }
     requires written { IsWritten seat.old 15 }
     ensures { StandsNested seat.new }
 {
@@ -49,7 +49,7 @@ fn build_inner<N: Name>(space: &Space<N>, seat: &mut LockSeat<N>)
 
 // The inner group is live, without a free slot, and begins at the slot's start.
 fn look<N: Name, R: Abort>(rt: &R, space: &Space<N>, seat: &mut LockSeat<N>)
-    requires start { N.start ≡ trial_start }
+    requires start { N.facts.start ≡ trial_start }
     requires nested { StandsNested seat.old }
     ensures { StandsNested seat.new }
 {
@@ -59,7 +59,7 @@ fn look<N: Name, R: Abort>(rt: &R, space: &Space<N>, seat: &mut LockSeat<N>)
 
 // The slot that carried the inner group is in motion again.
 fn end_inner<N: Name>(space: &Space<N>, seat: &mut LockSeat<N>)
-    requires start { N.start ≡ trial_start }
+    requires start { N.facts.start ≡ trial_start }
     requires nested { StandsNested seat.old }
     ensures stands { Stands seat.new page_runs (outer_group ∷ []) }
     ensures metas { AreMetasBlank seat.new 1 }
@@ -77,8 +77,8 @@ fn a_group_lives_in_a_slot(rt: HostRuntime) -> Result<(), Fail> {
 }
 
 fn nest_once<N: Name, R: Abort>(rt: &R, alloc: Global, blank: Blank) -> Result<(), Fail>
-    requires table { blank.table ≡ N.table }
-    requires start { blank.start ≡ N.start }
+    requires table { blank.table ≡ N.facts.table }
+    requires start { blank.start ≡ N.facts.start }
     requires trial { blank.start ≡ trial_start }
     requires rooms { blank.rooms ≡ 4 ∷ [] }
 {

@@ -27,7 +27,7 @@ pub(crate) fn start() -> Start
 }
 
 pub(crate) fn make_area<N: Name>(space: &Space<N>, seat: &mut LockSeat<N>)
-    requires start { N.start ≡ trial_start }
+    requires start { N.facts.start ≡ trial_start }
     requires fresh { Stands seat.old [] [] }
     ensures stands { Stands seat.new (area_run ∷ []) [] }
     ensures metas { AreMetasBlank seat.new 0 }
@@ -47,7 +47,7 @@ pub(crate) fn build_group<N: Name>(
     last: u32,
     mask: u32,
 )
-    requires start { N.start ≡ trial_start }
+    requires start { N.facts.start ≡ trial_start }
     requires stands { Stands seat.old (area_run ∷ []) [] }
     requires metas { AreMetasBlank seat.old 0 }
     requires fills { FillsPage class last mask }
@@ -63,7 +63,7 @@ pub(crate) fn build_group<N: Name>(
 
 // The group ends, whose slots are all in motion, and so does its run.
 pub(crate) fn end_group<N: Name>(space: &Space<N>, seat: &mut LockSeat<N>)
-    requires start { N.start ≡ trial_start }
+    requires start { N.facts.start ≡ trial_start }
     requires stands { StandsAlone seat.old }
     requires metas { AreMetasBlank seat.old 1 }
     requires slots { HasAllSlots seat.old 4120 }
@@ -78,7 +78,7 @@ pub(crate) fn end_group<N: Name>(space: &Space<N>, seat: &mut LockSeat<N>)
 
 // Stores 0 where there is another number.
 pub(crate) fn clear<N: Name>(space: &Space<N>, seat: &mut LockSeat<N>, from: u64, cells: u64)
-    requires start { N.start ≡ trial_start }
+    requires start { N.facts.start ≡ trial_start }
     requires cell { from % 4 ≡ 0 }
     requires inside { from + 4 * cells ≤ 65536 }
     requires builds { BuildsAll seat.old from cells }

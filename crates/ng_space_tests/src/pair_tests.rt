@@ -31,8 +31,8 @@ fn a_group_lives_and_ends(rt: HostRuntime) -> Result<(), Fail> {
 }
 
 fn live_once<N: Name, R: Abort>(rt: &R, alloc: Global, blank: Blank) -> Result<(), Fail>
-    requires table { blank.table ≡ N.table }
-    requires start { blank.start ≡ N.start }
+    requires table { blank.table ≡ N.facts.table }
+    requires start { blank.start ≡ N.facts.start }
     requires trial { blank.start ≡ trial_start }
     requires rooms { blank.rooms ≡ 4 ∷ [] }
 {
@@ -58,7 +58,7 @@ fn pass_back<N: Name, R: Abort>(
     seat: &mut LockSeat<N>,
     hand: &mut Hand<N>,
 )
-    requires start { N.start ≡ trial_start }
+    requires start { N.facts.start ≡ trial_start }
     requires stands { Stands seat.old page_runs (page_group 23 1 ∷ []) }
     requires metas { AreMetasBlank seat.old 1 }
     requires slot { find 4120 0 seat.old.held ≡ Some (in_motion (page_group 23 1) 0) }
@@ -92,7 +92,7 @@ fn pass_back<N: Name, R: Abort>(
 
 // A pop finds the avail mask 0, and changes no slot of the hand.
 fn find_bare<N: Name, R: Abort>(rt: &R, space: &Space<N>, hand: &mut Hand<N>)
-    requires start { N.start ≡ trial_start }
+    requires start { N.facts.start ≡ trial_start }
     ensures slots { (slot : Token) → HasSlot hand.old slot → HasSlot hand.new slot }
     ensures hand { HasEntered hand.old hand.new }
 {

@@ -25,7 +25,7 @@ const ROUNDS: u32 = 100_000;
 
 // What a lock's holder does for callers that find no slot, and at times both masks change places.
 fn serve<N: Name, R: Abort>(rt: &R, space: &Space<N>, seat: &mut LockSeat<N>)
-    requires start { N.start ≡ trial_start }
+    requires start { N.facts.start ≡ trial_start }
     requires serves { Serves seat.old }
     ensures serves { Serves seat.new }
 {
@@ -40,7 +40,7 @@ fn serve<N: Name, R: Abort>(rt: &R, space: &Space<N>, seat: &mut LockSeat<N>)
 
 // The lowest slot in avail goes to freed, or the slots of freed go to an empty avail.
 fn serve_once<N: Name, R: Abort>(rt: &R, space: &Space<N>, seat: &mut LockSeat<N>)
-    requires start { N.start ≡ trial_start }
+    requires start { N.facts.start ≡ trial_start }
     requires serves { Serves seat.old }
     ensures serves { Serves seat.new }
 {
@@ -59,7 +59,7 @@ fn serve_once<N: Name, R: Abort>(rt: &R, space: &Space<N>, seat: &mut LockSeat<N
 
 // The slots of the two masks change places.
 fn swap_masks<N: Name, R: Abort>(rt: &R, space: &Space<N>, seat: &mut LockSeat<N>)
-    requires start { N.start ≡ trial_start }
+    requires start { N.facts.start ≡ trial_start }
     requires serves { Serves seat.old }
     ensures serves { Serves seat.new }
 {
@@ -73,7 +73,7 @@ fn swap_masks<N: Name, R: Abort>(rt: &R, space: &Space<N>, seat: &mut LockSeat<N
 
 // The hand pops slots and pushes them, and answers the slot that it still has.
 fn trade<N: Name>(space: &Space<N>, hand: &mut Hand<N>) -> Option<Slot<N>>
-    requires start { N.start ≡ trial_start }
+    requires start { N.facts.start ≡ trial_start }
     ensures kept { IfSome result (HasSlot hand.new) }
     ensures hand { HasEntered hand.old hand.new }
 {
@@ -90,7 +90,7 @@ fn trade_once<N: Name>(
     hand: &mut Hand<N>,
     kept: Option<Slot<N>>,
 ) -> Option<Slot<N>>
-    requires start { N.start ≡ trial_start }
+    requires start { N.facts.start ≡ trial_start }
     requires kept { IfSome kept (HasSlot hand.old) }
     ensures kept { IfSome result (HasSlot hand.new) }
     ensures hand { HasEntered hand.old hand.new }
@@ -120,8 +120,8 @@ fn race<N: Name + Send + Sync, R: Threads + Abort + Sync>(
     alloc: Global,
     blank: Blank,
 ) -> Result<(), Fail>
-    requires table { blank.table ≡ N.table }
-    requires start { blank.start ≡ N.start }
+    requires table { blank.table ≡ N.facts.table }
+    requires start { blank.start ≡ N.facts.start }
     requires trial { blank.start ≡ trial_start }
     requires rooms { blank.rooms ≡ 0 ∷ [] }
 {
@@ -145,7 +145,7 @@ fn run_both<N: Name + Send + Sync, R: Threads + Abort + Sync>(
     seat: &mut LockSeat<N>,
     hand: &mut Hand<N>,
 ) -> Option<Slot<N>>
-    requires start { N.start ≡ trial_start }
+    requires start { N.facts.start ≡ trial_start }
     requires serves { Serves seat.old }
     ensures serves { Serves seat.new }
     ensures kept { IfSome result (HasSlot hand.new) }
@@ -167,7 +167,7 @@ fn gather<N: Name, R: Abort>(
     hand: &mut Hand<N>,
     kept: Option<Slot<N>>,
 )
-    requires start { N.start ≡ trial_start }
+    requires start { N.facts.start ≡ trial_start }
     requires serves { Serves seat.old }
     requires kept { IfSome kept (HasSlot hand.old) }
     ensures serves { Serves seat.new }

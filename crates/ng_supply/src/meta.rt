@@ -17,15 +17,15 @@ pub fn find_meta<N: Name, M: Mapper>(
     mapper: &mut M,
     stock: &mut MetaStock,
 ) -> Result<u64, u64>
-    requires mapper { IsHeapMapper N.start seat.old
+    requires mapper { IsHeapMapper N.facts.start seat.old
         (M.span mapper.old) (M.runs mapper.old) (M.refused mapper.old) }
-    requires stock { IsHeapStock N.start seat.old stock.old }
-    ensures mapper { IsHeapMapper N.start seat.new
+    requires stock { IsHeapStock N.facts.start seat.old stock.old }
+    ensures mapper { IsHeapMapper N.facts.start seat.new
         (M.span mapper.new) (M.runs mapper.new) (M.refused mapper.new) }
-    ensures stock { IsHeapStock N.start seat.new stock.new }
+    ensures stock { IsHeapStock N.facts.start seat.new stock.new }
     ensures constant { M.span mapper.new ≡ M.span mapper.old }
 
-    ensures ok { IfOk result (λ meta. FindsMeta N.start
+    ensures ok { IfOk result (λ meta. FindsMeta N.facts.start
         seat.old (M.runs mapper.old) stock.old meta seat.new (M.runs mapper.new) stock.new) }
     ensures calm { OnOk result (M.refused mapper.new ≡ M.refused mapper.old) }
 
@@ -64,17 +64,17 @@ fn add_area<N: Name, M: Mapper>(
     mapper: &mut M,
     stock: &mut MetaStock,
 ) -> Result<u64, u64>
-    requires mapper { IsHeapMapper N.start seat.old
+    requires mapper { IsHeapMapper N.facts.start seat.old
         (M.span mapper.old) (M.runs mapper.old) (M.refused mapper.old) }
-    requires stock { IsHeapStock N.start seat.old stock.old }
+    requires stock { IsHeapStock N.facts.start seat.old stock.old }
     requires none { free_of stock.old ≡ [] }
-    ensures mapper { IsHeapMapper N.start seat.new
+    ensures mapper { IsHeapMapper N.facts.start seat.new
         (M.span mapper.new) (M.runs mapper.new) (M.refused mapper.new) }
     ensures constant { M.span mapper.new ≡ M.span mapper.old }
 
-    ensures ok { IfOk result (λ addr. AddsArea N.start
+    ensures ok { IfOk result (λ addr. AddsArea N.facts.start
         seat.old (M.runs mapper.old) stock.old addr seat.new (M.runs mapper.new) stock.new) }
-    ensures stock { OnOk result (IsHeapStock N.start seat.new stock.new) }
+    ensures stock { OnOk result (IsHeapStock N.facts.start seat.new stock.new) }
     ensures calm { OnOk result (M.refused mapper.new ≡ M.refused mapper.old) }
 
     ensures err { IfErr result (λ number. RefusesRun

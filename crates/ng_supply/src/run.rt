@@ -14,13 +14,13 @@ pub fn map_run<N: Name, M: Mapper>(
     pages: u64,
 ) -> Result<u64, u64>
     requires pages { 1 ≤ pages }
-    requires mapper { IsHeapMapper N.start seat.old
+    requires mapper { IsHeapMapper N.facts.start seat.old
         (M.span mapper.old) (M.runs mapper.old) (M.refused mapper.old) }
-    ensures mapper { IsHeapMapper N.start seat.new
+    ensures mapper { IsHeapMapper N.facts.start seat.new
         (M.span mapper.new) (M.runs mapper.new) (M.refused mapper.new) }
     ensures constant { M.span mapper.new ≡ M.span mapper.old }
 
-    ensures ok { IfOk result (λ addr. MapsRun N.start seat.old addr pages seat.new) }
+    ensures ok { IfOk result (λ addr. MapsRun N.facts.start seat.old addr pages seat.new) }
     ensures mapped { IfOk result (λ addr.
         AddsRun (M.runs mapper.old) (M.runs mapper.new) (addr, pages)) }
     ensures calm { OnOk result (M.refused mapper.new ≡ M.refused mapper.old) }

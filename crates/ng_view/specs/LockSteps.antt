@@ -43,14 +43,15 @@ abbrev pub bits_but : ℕ → List (ℕ × ℕ) → List (ℕ × ℕ)
 bits_but m [] = []
 bits_but m (b ∷ bs) = cond (eqb b.0 m) (bits_but m bs) (b ∷ bits_but m bs)
 
--- retire: the group's slots are no more, nor is anything noted of its masks; the slot that carried it, in `back`, is
--- in motion again, and `ns` carry still
+-- retire: the group's slots are no more, nor is anything noted of its masks; its avail word is known to be 0; the slot
+-- that carried it, in `back`, is in motion again, and `ns` carry still
 abbrev pub retired : View → ℕ → List Held → List Nest → View
 retired v m back ns = record v {
   held = back ++ outside m v.held;
   desk = record v.desk {
     layout = record { runs = v.desk.layout.runs; nests = ns };
     groups = groups_but m v.desk.groups;
+    cells = (m + 24, 0) ∷ v.desk.cells;
     zero_avail = others m v.desk.zero_avail;
     zero_freed = others m v.desk.zero_freed;
     set_freed = bits_but m v.desk.set_freed;

@@ -242,6 +242,13 @@ module _ (key : Start) (ws : List ℕ) (vs : List View) (id : ℕ) (v : View) (k
       value : IsFree ws d a → cell ws' a ≡ cell ws a
       value f = Rattle.ng_rule.proofs.geometry.Frames.free_meta key ws d kept.words.lawful nests_ok m 24 0 a al live (omega arith) refl f
 
+  -- the avail word of the group is 0 now
+  emptied : IsFree ws' e (m + 24) × (cell ws' (m + 24) ≡ 0)
+  emptied = (
+    (omega arith, inr (record { meta = m; whole = al; in_area = area_in d m area; free = gone; from = omega arith; below = omega arith })),
+    but_avail key ws d kept.words.lawful nests_ok m 0 al area,
+  )
+
   not_m : (n : ℕ) → n % 4 ≡ 0 → 0 < tag ws' n → n ≢ m
   not_m n nl l p = let t : tag ws' n ≡ 0 = ap (tag ws') p ∙ gone in omega arith
 
@@ -259,11 +266,18 @@ module _ (key : Start) (ws : List ℕ) (vs : List View) (id : ℕ) (v : View) (k
       let f : b < 40 → b % 4 ≡ 0 → cell ws' (n + b) ≡ cell ws (n + b) = λ lb bl. but_field key ws d kept.words.lawful nests_ok m 0 al area n b nl (kept.words.lawful.groups n nl l).in_area lb bl (λ q. ne q.0) in
       ⊎_elim (λ (e : b ≡ 24). f (omega arith) (omega arith)) (λ (e : b ≡ 28). f (omega arith) (omega arith)) s
 
+  known_free : (a y : ℕ) → Among {A = ℕ × ℕ} (a, y) w.desk.cells → IsFree ws' w.desk.layout a × (cell ws' a ≡ y)
+  known_free a y (inl same) =
+      let at : m + 24 ≡ a = sym (ap (λ (c : ℕ × ℕ). c.0) same) in let zero : 0 ≡ y = sym (ap (λ (c : ℕ × ℕ). c.1) same) in
+      let one = subst (λ b. IsFree ws' e b × (cell ws' b ≡ 0)) at emptied in
+      (subst (λ (e : Layout). IsFree ws' e a) layout_same one.0, one.1 ∙ zero)
+  known_free a y (inr q) = let k = free a y q in (subst (λ (e : Layout). IsFree ws' e a) layout_same k.0, k.1)
+
   noted_is : Noted ws' w.desk
   noted_is =
       let o = subst (Noted ws) desk_was kept.knowledge.desk in
       record {
-        free = λ a y q. let k = free a y q in (subst (λ (e : Layout). IsFree ws' e a) layout_same k.0, k.1);
+        free = known_free;
         masks = record {
           zero_avail = λ n q. let z = among_others m v.desk.zero_avail n q in avail_else ws ws' v.desk w.desk m al tags group_same marks_else (area_in v.desk.layout) was_listing words_else n z.1 (o.masks.zero_avail n z.0);
           zero_freed = λ n q. let z = among_others m v.desk.zero_freed n q in freed_else ws ws' v.desk w.desk m al tags group_same marks_else (area_in v.desk.layout) was_listing words_else n z.1 (o.masks.zero_freed n z.0);

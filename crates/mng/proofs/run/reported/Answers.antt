@@ -10,7 +10,7 @@ render-requires-clause-answered g c = rw c.as_slice.ensures.value (HasReplies-fr
 pub returns : goal.returns
 returns g c = record {
   runs =
-      runs_closed g.M.Mapper.span g.M.Mapper.runs g.M.Mapper.refused c.args.prepared.plan c.args.prepared.calls_shown g.N.Name.start
+      runs_closed g.M.Mapper.span g.M.Mapper.runs g.M.Mapper.refused c.args.prepared.plan c.args.prepared.calls_shown g.N.Name.facts.start
       c.serial-replies.new.core.seat c.serial-replies.new.hands.items c.args.core.mapper c.serial-replies.new.core.mapper c.close-image.result.2
       (record { image = c.close-image.result.0; books = c.from_vec.result; replies = c.from_vec-2.result }) c.serial-replies.result.items
       c.requires.secret c.requires.mapper c.close-image.ensures.mapper c.close-image.ensures.pages

@@ -2,7 +2,7 @@ use Rattle.mng.proofs.OpenLemmas.{all_opened, even_opened}
 use Rattle.mng.proofs.run.run.Goals as goal
 
 pub close-image-requires-clause-all : goal.close-image-requires-clause-all
-close-image-requires-clause-all g c = all_opened g.N.Name.start c.args.fresh.blank.rooms _ _ c.in-Ok.ensures.seat c.in-Ok.ensures.hands
+close-image-requires-clause-all g c = all_opened g.N.Name.facts.start c.args.fresh.blank.rooms _ _ c.in-Ok.ensures.seat c.in-Ok.ensures.hands
 
 pub close-image-requires-clause-parcels : goal.close-image-requires-clause-parcels
 close-image-requires-clause-parcels g c = even_opened c.args.fresh.blank.rooms _ c.in-Ok.ensures.hands

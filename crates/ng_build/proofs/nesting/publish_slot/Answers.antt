@@ -16,11 +16,11 @@ publish-requires-clause-built g c =
     let p = c.args.parent.now in let d = c.args.draft.now in
     subst (MayPublish c.write_meta.new.seat d.meta d.class) (sym c.avail.ensures)
     (inr (slot_builds _ _ _ p d c.requires.meta c.requires.carrier c.write_head.ensures.view c.write_headers.ensures.view
-    _ g.N.Name.start.pages c.requires.place c.requires.counted c.write_meta.ensures c.write_head.ensures.base c.write_head.ensures.base_high c.write_headers.ensures.kept c.write_headers.ensures.lows))
+    _ g.N.Name.facts.start.pages c.requires.place c.requires.counted c.write_meta.ensures c.write_head.ensures.base c.write_head.ensures.base_high c.write_headers.ensures.kept c.write_headers.ensures.lows))
 
 pub returns : goal.returns
 returns g c =
     let p = c.args.parent.now in let d = c.args.draft.now in
     slot_publishes _ _ _ p d c.requires.meta c.requires.carrier c.write_head.ensures.view c.write_headers.ensures.view
-    _ g.N.Name.start.pages c.requires.place c.requires.counted c.write_meta.ensures c.write_head.ensures.base c.write_head.ensures.base_high c.write_headers.ensures.kept c.write_headers.ensures.lows _
+    _ g.N.Name.facts.start.pages c.requires.place c.requires.counted c.write_meta.ensures c.write_head.ensures.base c.write_head.ensures.base_high c.write_headers.ensures.kept c.write_headers.ensures.lows _
     (subst (λ m. Publishes c.write_meta.new.seat d.meta d.class m c.publish.new.seat) c.avail.ensures c.publish.ensures)

@@ -11,16 +11,16 @@ pub store_page-requires-2-clause-may : goal.store_page-requires-2-clause-may
 store_page-requires-2-clause-may g c =
     let w = c.store_page.new.seat in let some = c.requires.some in
     inl (run_cell _ w c.args.draft.now.base c.args.draft.now.maplen 8 c.requires.run c.requires.whole
-    (run_1 _ w w c.args.draft.now g.N.Name.start.pages c.requires.place c.requires.meta c.requires.whole c.requires.some c.requires.run c.store_page.ensures) (omega arith) refl)
+    (run_1 _ w w c.args.draft.now g.N.Name.facts.start.pages c.requires.place c.requires.meta c.requires.whole c.requires.some c.requires.run c.store_page.ensures) (omega arith) refl)
 
 pub write_meta-requires-clause-idle : goal.write_meta-requires-clause-idle
-write_meta-requires-clause-idle g c = idle_2 _ _ _ c.args.draft.now g.N.Name.start.pages c.requires.place c.requires.meta c.requires.whole c.requires.some c.requires.run c.store_page.ensures c.store_page-2.ensures
+write_meta-requires-clause-idle g c = idle_2 _ _ _ c.args.draft.now g.N.Name.facts.start.pages c.requires.place c.requires.meta c.requires.whole c.requires.some c.requires.run c.store_page.ensures c.store_page-2.ensures
 
 pub publish-requires-clause-built : goal.publish-requires-clause-built
-publish-requires-clause-built g c = subst (MayPublish c.write_meta.new.seat c.args.draft.now.meta c.args.draft.now.class) (sym c.avail.ensures) (inl (run_builds _ _ _ c.args.draft.now g.N.Name.start.pages c.requires.place c.requires.meta c.requires.whole c.requires.some c.requires.run c.store_page.ensures c.store_page-2.ensures
+publish-requires-clause-built g c = subst (MayPublish c.write_meta.new.seat c.args.draft.now.meta c.args.draft.now.class) (sym c.avail.ensures) (inl (run_builds _ _ _ c.args.draft.now g.N.Name.facts.start.pages c.requires.place c.requires.meta c.requires.whole c.requires.some c.requires.run c.store_page.ensures c.store_page-2.ensures
     c.requires.apart c.requires.counted c.requires.shape _ c.write_meta.ensures))
 
 pub returns : goal.returns
-returns g c = run_publishes _ _ _ c.args.draft.now g.N.Name.start.pages c.requires.place c.requires.meta c.requires.whole c.requires.some c.requires.run c.store_page.ensures c.store_page-2.ensures
+returns g c = run_publishes _ _ _ c.args.draft.now g.N.Name.facts.start.pages c.requires.place c.requires.meta c.requires.whole c.requires.some c.requires.run c.store_page.ensures c.store_page-2.ensures
     c.requires.apart c.requires.counted c.requires.shape _ c.write_meta.ensures _
     (subst (λ m. Publishes c.write_meta.new.seat c.args.draft.now.meta c.args.draft.now.class m c.publish.new.seat) c.avail.ensures c.publish.ensures)

@@ -19,7 +19,7 @@ returns-in-Err-clause-framed g c = λ f.
     let first : (c.at.result + c.gap-gap.result) - c.in-Ok.reserved ≡ mark_at block w = (λ k. end k - c.in-Ok.ensures.ok k) in
     let zero : 0 < c.in-Ok.reserved → c.byte-mark.result ≡ 0 = (λ more.
     c.byte-mark.ensures.value ∙ ap (λ p. byte_of c.load.result (p % 4)) first
-    ∙ first_clean g.N.Name.start c.read_words-words.new.hand block w _ c.load.result (framed_stays c.args.hand.now c.read_words-words.new.hand c.read_words-words.ensures.number block (c.read_words-words.ensures.kept.slots block.slot.meta block.slot.index) f) (c.read_words-words.ensures.tells f) (ap (λ p. 4 * (p / 4)) first) c.load.ensures.told (subst (λ r. 0 < r) c.in-Ok.ensures.ok more)) in
+    ∙ first_clean g.N.Name.facts.start c.read_words-words.new.hand block w _ c.load.result (framed_stays c.args.hand.now c.read_words-words.new.hand c.read_words-words.ensures.number block (c.read_words-words.ensures.kept.slots block.slot.meta block.slot.index) f) (c.read_words-words.ensures.tells f) (ap (λ p. 4 * (p / 4)) first) c.load.ensures.told (subst (λ r. 0 < r) c.in-Ok.ensures.ok more)) in
     absurd (err_ok _ _ (c.in-Err.ensures.value ∙ nominal_in-trailer c.gap-gap.result c.in-Ok.reserved c.byte-mark.result zero))
 
 pub returns-in-Err-clause-kept : goal.returns-in-Err-clause-kept

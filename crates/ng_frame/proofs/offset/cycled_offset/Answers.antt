@@ -10,17 +10,17 @@ pub returns-clause-cycles : goal.returns-clause-cycles
 returns-clause-cycles g c =
     let slot = c.args.slot.now in
     let x : ℕ = c.load.result in
-    let is = whole g.N.Name.start c.args.hand.now slot c.requires.slot c.load.ensures.placed in record {
+    let is = whole g.N.Name.facts.start c.args.hand.now slot c.requires.slot c.load.ensures.placed in record {
       word = x;
       view = c.load.ensures.view ∙ ap (λ a. loaded c.args.hand.now.view a x) (front_is slot c.start.result c.start.ensures is);
       offset_is = c.cycle.ensures.value ∙ (λ k. cycle_of (c.kept_field.ensures.value k) ((c.room.ensures k - 4 - c.args.n) / 16) c.args.counter);
     }
 
 pub returns-clause-whole : goal.returns-clause-whole
-returns-clause-whole g c = whole g.N.Name.start c.args.hand.now c.args.slot.now c.requires.slot c.load.ensures.placed
+returns-clause-whole g c = whole g.N.Name.facts.start c.args.hand.now c.args.slot.now c.requires.slot c.load.ensures.placed
 
 pub returns-clause-narrow : goal.returns-clause-narrow
-returns-clause-narrow g c = narrow g.N.Name.start c.args.hand.now c.args.slot.now _ c.load.result c.cycle.result c.requires.slot c.load.ensures.told (let low = cycle_of-small c.kept_field.result ((c.room.result - 4 - c.args.n) / 16) c.args.counter in let o = c.cycle.ensures.value in omega (arith, low, o)) (let o = c.cycle.ensures.within in let room = c.room.ensures in let fits = c.requires.fits in omega (arith, o, room, fits))
+returns-clause-narrow g c = narrow g.N.Name.facts.start c.args.hand.now c.args.slot.now _ c.load.result c.cycle.result c.requires.slot c.load.ensures.told (let low = cycle_of-small c.kept_field.result ((c.room.result - 4 - c.args.n) / 16) c.args.counter in let o = c.cycle.ensures.value in omega (arith, low, o)) (let o = c.cycle.ensures.within in let room = c.room.ensures in let fits = c.requires.fits in omega (arith, o, room, fits))
 
 pub returns-clause-own : goal.returns-clause-own
 returns-clause-own g c = stays_loaded c.args.hand.now.view c.load.new.hand.view _ c.load.result c.args.slot.now.meta c.args.slot.now.index c.load.ensures.view

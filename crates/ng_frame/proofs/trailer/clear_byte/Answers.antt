@@ -7,7 +7,7 @@ returns-clause-zero g c = cleared_zero c.args.hand.now c.load-word.new.hand c.st
 
 pub returns-clause-zeros : goal.returns-clause-zeros
 returns-clause-zeros g c = cleared_zeros c.args.hand.now c.load-word.new.hand c.store_own.new.hand c.args.slot.now c.requires.slot c.args.at c.load-word.result c.without_byte-cell.result c.load-word.ensures.view c.store_own.ensures.view
-    g.N.Name.start c.load-word.ensures.told c.without_byte-cell.ensures.zero c.without_byte-cell.ensures.others
+    g.N.Name.facts.start c.load-word.ensures.told c.without_byte-cell.ensures.zero c.without_byte-cell.ensures.others
 
 pub returns-clause-own : goal.returns-clause-own
 returns-clause-own g c = cleared_own c.args.hand.now c.load-word.new.hand c.store_own.new.hand c.args.slot.now c.requires.slot c.args.at c.load-word.result c.without_byte-cell.result c.load-word.ensures.view c.store_own.ensures.view

@@ -2,4 +2,4 @@ use Rattle.ng_group_tests.proofs.random_tests.answers_are_the_models.Given as go
 
 -- the heap that was just made
 abbrev pub ghosts-run : goal.ghosts-run
-ghosts-run g a = record { table = a.blank.table; start = a.blank.start }
+ghosts-run g a = record { facts = record { table = a.blank.table; start = a.blank.start; hands = length a.blank.rooms; most = MOST } }

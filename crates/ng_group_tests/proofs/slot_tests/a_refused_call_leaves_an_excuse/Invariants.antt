@@ -2,4 +2,4 @@ use Rattle.ng_group_tests.proofs.slot_tests.a_refused_call_leaves_an_excuse.Give
 
 -- the heap that was just made
 abbrev pub ghosts-refuse_one : goal.ghosts-refuse_one
-ghosts-refuse_one g a = record { table = a.blank.table; start = a.blank.start }
+ghosts-refuse_one g a = record { facts = record { table = a.blank.table; start = a.blank.start; hands = length a.blank.rooms; most = MOST } }

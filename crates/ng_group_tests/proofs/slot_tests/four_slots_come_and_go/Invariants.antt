@@ -2,4 +2,4 @@ use Rattle.ng_group_tests.proofs.slot_tests.four_slots_come_and_go.Given as goal
 
 -- the heap that was just made
 abbrev pub ghosts-serve_four : goal.ghosts-serve_four
-ghosts-serve_four g a = record { table = a.blank.table; start = a.blank.start }
+ghosts-serve_four g a = record { facts = record { table = a.blank.table; start = a.blank.start; hands = length a.blank.rooms; most = MOST } }

@@ -9,5 +9,5 @@ close-image-requires-clause-all g c =
     let made = c.in_ok-space.ensures in
     let joined = c.join-first.ensures in
     all_of_two _ _ c.join-first.result.0 c.join-first.result.1
-    (ap (λ (v : View). v.desk.next) made.lock ∙ ap (λ rs. (opened g.N.Name.start (length rs)).desk.next) c.requires.rooms)
+    (ap (λ (v : View). v.desk.next) made.lock ∙ ap (λ rs. (opened g.N.Name.facts.start (length rs)).desk.next) c.requires.rooms)
     c.in_ok-vec.ensures.items (joined.first.number ∙ ap (λ (h : Caller). h.number) c.two_hands-first.ensures.first) (joined.second.number ∙ ap (λ (h : Caller). h.number) c.two_hands-first.ensures.second)

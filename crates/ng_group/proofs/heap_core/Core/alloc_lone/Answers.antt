@@ -11,22 +11,22 @@ use Rattle.ng_group.proofs.heap_core.Core.alloc_lone.Goals as goal
 -- ---- the seat passed on a slot
 pub slot_to_hand-requires-clause-place : goal.slot_to_hand-requires-clause-place
 slot_to_hand-requires-clause-place g c =
-    slot_place g.N.Name.start g.M.Mapper.span g.M.Mapper.runs g.M.Mapper.refused (works_of c.self-inside.view_is)
+    slot_place g.N.Name.facts.start g.M.Mapper.span g.M.Mapper.runs g.M.Mapper.refused (works_of c.self-inside.view_is)
     63 c.args.bytes c.in-Ok.meta 0
     c.in-Ok.ensures.working
     c.in-Ok.ensures.served
 
 pub slot_to_hand-requires-clause-slot : goal.slot_to_hand-requires-clause-slot
 slot_to_hand-requires-clause-slot g c =
-    slot_motion g.N.Name.start g.M.Mapper.span g.M.Mapper.runs g.M.Mapper.refused (works_of c.self-inside.view_is)
+    slot_motion g.N.Name.facts.start g.M.Mapper.span g.M.Mapper.runs g.M.Mapper.refused (works_of c.self-inside.view_is)
     63 c.args.bytes c.in-Ok.meta 0
     c.in-Ok.ensures.served
 
 -- what the seat's call told
 served : (g : Over) (c : goal.After-slot_to_hand g)
-    → Serves g.N.Name.start g.M.Mapper.span g.M.Mapper.runs g.M.Mapper.refused 63 c.args.bytes c.in-Ok.meta 0 c.args.self.now c.seat_lone.new.self
+    → Serves g.N.Name.facts.start g.M.Mapper.span g.M.Mapper.runs g.M.Mapper.refused 63 c.args.bytes c.in-Ok.meta 0 c.args.self.now c.seat_lone.new.self
 served g c =
-    serves_at g.N.Name.start g.M.Mapper.span g.M.Mapper.runs g.M.Mapper.refused 63 c.args.bytes c.in-Ok.meta 0 c.self.view_is c.self.invariant
+    serves_at g.N.Name.facts.start g.M.Mapper.span g.M.Mapper.runs g.M.Mapper.refused 63 c.args.bytes c.in-Ok.meta 0 c.self.view_is c.self.invariant
     c.in-Ok.ensures.working
     c.in-Ok.ensures.on
     c.in-Ok.ensures.hand
@@ -35,7 +35,7 @@ served g c =
 
 pub invariant_of-self : goal.invariant_of-self
 invariant_of-self g c =
-    rests_slot g.N.Name.start g.M.Mapper.span g.M.Mapper.runs g.M.Mapper.refused (works_of c.self-inside.view_is)
+    rests_slot g.N.Name.facts.start g.M.Mapper.span g.M.Mapper.runs g.M.Mapper.refused (works_of c.self-inside.view_is)
     63 c.args.bytes c.in-Ok.meta 0
     (served g c)
     c.slot_to_hand.new.seat
@@ -46,7 +46,7 @@ gains : (g : Over) (c : goal.After-slot_to_hand g)
 gains g c =
     passed 63 c.args.bytes c.in-Ok.meta 0 c.seat_lone.new.self.seat c.in-Ok.ensures.served
     c.args.hand.now.view c.args.hand.now.view (learns_same c.args.hand.now.view) _
-    (slot_found g.N.Name.start g.M.Mapper.span g.M.Mapper.runs g.M.Mapper.refused (works_of c.self-inside.view_is)
+    (slot_found g.N.Name.facts.start g.M.Mapper.span g.M.Mapper.runs g.M.Mapper.refused (works_of c.self-inside.view_is)
     63 c.args.bytes c.in-Ok.meta 0 c.in-Ok.ensures.served)
     c.slot_to_hand.new.hand c.slot_to_hand.result c.slot_to_hand.ensures.view c.slot_to_hand.ensures.meta c.slot_to_hand.ensures.index
 
@@ -54,7 +54,7 @@ pub returns-in-Ok-clause-slot : goal.returns-in-Ok-clause-slot
 returns-in-Ok-clause-slot g c =
     passed_slot 63 c.args.bytes c.in-Ok.meta 0 c.seat_lone.new.self.seat c.in-Ok.ensures.served
     c.args.hand.now.view c.args.hand.now.view (learns_same c.args.hand.now.view) _
-    (slot_found g.N.Name.start g.M.Mapper.span g.M.Mapper.runs g.M.Mapper.refused (works_of c.self-inside.view_is)
+    (slot_found g.N.Name.facts.start g.M.Mapper.span g.M.Mapper.runs g.M.Mapper.refused (works_of c.self-inside.view_is)
     63 c.args.bytes c.in-Ok.meta 0 c.in-Ok.ensures.served)
     c.slot_to_hand.new.hand c.slot_to_hand.result c.slot_to_hand.ensures.view c.slot_to_hand.ensures.meta c.slot_to_hand.ensures.index
     c.slot_to_hand.ensures.slot
@@ -84,18 +84,18 @@ returns-in-Ok-clause-builds g c =
 -- ---- the seat passed on an excuse
 pub excuse_to_hand-requires : goal.excuse_to_hand-requires
 excuse_to_hand-requires g c =
-    let told = refuses_at g.N.Name.start g.M.Mapper.span g.M.Mapper.runs g.M.Mapper.refused c.in-Err.number c.self.view_is c.self.invariant
+    let told = refuses_at g.N.Name.facts.start g.M.Mapper.span g.M.Mapper.runs g.M.Mapper.refused c.in-Err.number c.self.view_is c.self.invariant
     c.in-Err.ensures.working
     c.in-Err.ensures.on
     c.in-Err.ensures.hand
     c.in-Err.ensures.refused
     c.in-Err.ensures.idle in
-    record { excuse = excuse_number g.N.Name.start g.M.Mapper.span g.M.Mapper.runs g.M.Mapper.refused (works_of c.self-inside.view_is) c.in-Err.number told }
+    record { excuse = excuse_number g.N.Name.facts.start g.M.Mapper.span g.M.Mapper.runs g.M.Mapper.refused (works_of c.self-inside.view_is) c.in-Err.number told }
 
 refuses : (g : Over) (c : goal.After-excuse_to_hand g)
-    → Refuses g.N.Name.start g.M.Mapper.span g.M.Mapper.runs g.M.Mapper.refused c.in-Err.number c.args.self.now c.seat_lone.new.self
+    → Refuses g.N.Name.facts.start g.M.Mapper.span g.M.Mapper.runs g.M.Mapper.refused c.in-Err.number c.args.self.now c.seat_lone.new.self
 refuses g c =
-    refuses_at g.N.Name.start g.M.Mapper.span g.M.Mapper.runs g.M.Mapper.refused c.in-Err.number c.self.view_is c.self.invariant
+    refuses_at g.N.Name.facts.start g.M.Mapper.span g.M.Mapper.runs g.M.Mapper.refused c.in-Err.number c.self.view_is c.self.invariant
     c.in-Err.ensures.working
     c.in-Err.ensures.on
     c.in-Err.ensures.hand
@@ -104,7 +104,7 @@ refuses g c =
 
 pub invariant_of-self-in-Err : goal.invariant_of-self-in-Err
 invariant_of-self-in-Err g c =
-    rests_excuse g.N.Name.start g.M.Mapper.span g.M.Mapper.runs g.M.Mapper.refused (works_of c.self-inside.view_is) c.in-Err.number (refuses g c)
+    rests_excuse g.N.Name.facts.start g.M.Mapper.span g.M.Mapper.runs g.M.Mapper.refused (works_of c.self-inside.view_is) c.in-Err.number (refuses g c)
     c.excuse_to_hand.new.seat
     c.excuse_to_hand.ensures.seat
 
@@ -114,7 +114,7 @@ gains-in-Err g c =
     excused c.in-Err.number c.excuse_to_hand.result.number c.args.hand.now.view c.args.hand.now.view c.excuse_to_hand.new.hand.view _
     c.excuse_to_hand.ensures.excuse
     (learns_same c.args.hand.now.view)
-    (excuse_found g.N.Name.start g.M.Mapper.span g.M.Mapper.runs g.M.Mapper.refused (works_of c.self-inside.view_is) c.in-Err.number (refuses g c))
+    (excuse_found g.N.Name.facts.start g.M.Mapper.span g.M.Mapper.runs g.M.Mapper.refused (works_of c.self-inside.view_is) c.in-Err.number (refuses g c))
     c.excuse_to_hand.ensures.view
 
 pub returns-in-Err-clause-others : goal.returns-in-Err-clause-others

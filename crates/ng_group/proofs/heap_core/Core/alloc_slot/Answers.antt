@@ -13,7 +13,7 @@ use Rattle.ng_group.proofs.heap_core.Core.alloc_slot.Goals as goal
 -- ---- the hand won a slot
 pub pop-requires-clause-place : goal.pop-requires-clause-place
 pop-requires-clause-place g c =
-    first_place g.N.Name.start g.M.Mapper.span g.M.Mapper.runs g.M.Mapper.refused c.args.class c.in-Some.first
+    first_place g.N.Name.facts.start g.M.Mapper.span g.M.Mapper.runs g.M.Mapper.refused c.args.class c.in-Some.first
     (works_of c.self-inside.view_is)
     c.self.invariant.working
     c.requires.class
@@ -51,22 +51,22 @@ returns-in-Won-clause-on g c = goes_same c.args.self.now.seat
 -- ---- the seat passed on a slot
 pub slot_to_hand-requires-clause-place : goal.slot_to_hand-requires-clause-place
 slot_to_hand-requires-clause-place g c =
-    slot_place g.N.Name.start g.M.Mapper.span g.M.Mapper.runs g.M.Mapper.refused (works_of c.self-inside-2.view_is)
+    slot_place g.N.Name.facts.start g.M.Mapper.span g.M.Mapper.runs g.M.Mapper.refused (works_of c.self-inside-2.view_is)
     c.args.class c.args.bytes c.in-Ok.meta c.in-Ok.index
     c.in-Ok.ensures.working
     c.in-Ok.ensures.served
 
 pub slot_to_hand-requires-clause-slot : goal.slot_to_hand-requires-clause-slot
 slot_to_hand-requires-clause-slot g c =
-    slot_motion g.N.Name.start g.M.Mapper.span g.M.Mapper.runs g.M.Mapper.refused (works_of c.self-inside-2.view_is)
+    slot_motion g.N.Name.facts.start g.M.Mapper.span g.M.Mapper.runs g.M.Mapper.refused (works_of c.self-inside-2.view_is)
     c.args.class c.args.bytes c.in-Ok.meta c.in-Ok.index
     c.in-Ok.ensures.served
 
 -- what the seat's call told
 served : (g : Over) (c : goal.After-slot_to_hand g)
-    → Serves g.N.Name.start g.M.Mapper.span g.M.Mapper.runs g.M.Mapper.refused c.args.class c.args.bytes c.in-Ok.meta c.in-Ok.index c.args.self.now c.seat_slot.new.self
+    → Serves g.N.Name.facts.start g.M.Mapper.span g.M.Mapper.runs g.M.Mapper.refused c.args.class c.args.bytes c.in-Ok.meta c.in-Ok.index c.args.self.now c.seat_slot.new.self
 served g c =
-    serves_at g.N.Name.start g.M.Mapper.span g.M.Mapper.runs g.M.Mapper.refused c.args.class c.args.bytes c.in-Ok.meta c.in-Ok.index
+    serves_at g.N.Name.facts.start g.M.Mapper.span g.M.Mapper.runs g.M.Mapper.refused c.args.class c.args.bytes c.in-Ok.meta c.in-Ok.index
     c.self.view_is
     c.self.invariant
     c.in-Ok.ensures.working
@@ -77,7 +77,7 @@ served g c =
 
 pub invariant_of-self : goal.invariant_of-self
 invariant_of-self g c =
-    rests_slot g.N.Name.start g.M.Mapper.span g.M.Mapper.runs g.M.Mapper.refused (works_of c.self-inside-2.view_is)
+    rests_slot g.N.Name.facts.start g.M.Mapper.span g.M.Mapper.runs g.M.Mapper.refused (works_of c.self-inside-2.view_is)
     c.args.class c.args.bytes c.in-Ok.meta c.in-Ok.index
     (served g c)
     c.slot_to_hand.new.seat
@@ -98,7 +98,7 @@ gains : (g : Over) (c : goal.After-slot_to_hand g)
 gains g c =
     passed c.args.class c.args.bytes c.in-Ok.meta c.in-Ok.index c.seat_slot.new.self.seat c.in-Ok.ensures.served
     c.args.hand.now.view c.match-first.hand.view (tried g c).learns _
-    (slot_found g.N.Name.start g.M.Mapper.span g.M.Mapper.runs g.M.Mapper.refused (works_of c.self-inside-2.view_is)
+    (slot_found g.N.Name.facts.start g.M.Mapper.span g.M.Mapper.runs g.M.Mapper.refused (works_of c.self-inside-2.view_is)
     c.args.class c.args.bytes c.in-Ok.meta c.in-Ok.index c.in-Ok.ensures.served)
     c.slot_to_hand.new.hand c.slot_to_hand.result c.slot_to_hand.ensures.view c.slot_to_hand.ensures.meta c.slot_to_hand.ensures.index
 
@@ -106,7 +106,7 @@ pub returns-in-Ok-clause-slot : goal.returns-in-Ok-clause-slot
 returns-in-Ok-clause-slot g c =
     passed_slot c.args.class c.args.bytes c.in-Ok.meta c.in-Ok.index c.seat_slot.new.self.seat c.in-Ok.ensures.served
     c.args.hand.now.view c.match-first.hand.view (tried g c).learns _
-    (slot_found g.N.Name.start g.M.Mapper.span g.M.Mapper.runs g.M.Mapper.refused (works_of c.self-inside-2.view_is)
+    (slot_found g.N.Name.facts.start g.M.Mapper.span g.M.Mapper.runs g.M.Mapper.refused (works_of c.self-inside-2.view_is)
     c.args.class c.args.bytes c.in-Ok.meta c.in-Ok.index c.in-Ok.ensures.served)
     c.slot_to_hand.new.hand c.slot_to_hand.result c.slot_to_hand.ensures.view c.slot_to_hand.ensures.meta c.slot_to_hand.ensures.index
     c.slot_to_hand.ensures.slot
@@ -143,18 +143,18 @@ returns-in-Ok-clause-builds g c =
 -- ---- the seat passed on an excuse
 pub excuse_to_hand-requires : goal.excuse_to_hand-requires
 excuse_to_hand-requires g c =
-    let told = refuses_at g.N.Name.start g.M.Mapper.span g.M.Mapper.runs g.M.Mapper.refused c.in-Err.number c.self.view_is c.self.invariant
+    let told = refuses_at g.N.Name.facts.start g.M.Mapper.span g.M.Mapper.runs g.M.Mapper.refused c.in-Err.number c.self.view_is c.self.invariant
     c.in-Err.ensures.working
     c.in-Err.ensures.on
     c.in-Err.ensures.hand
     c.in-Err.ensures.refused
     c.in-Err.ensures.idle in
-    record { excuse = excuse_number g.N.Name.start g.M.Mapper.span g.M.Mapper.runs g.M.Mapper.refused (works_of c.self-inside-2.view_is) c.in-Err.number told }
+    record { excuse = excuse_number g.N.Name.facts.start g.M.Mapper.span g.M.Mapper.runs g.M.Mapper.refused (works_of c.self-inside-2.view_is) c.in-Err.number told }
 
 refuses : (g : Over) (c : goal.After-excuse_to_hand g)
-    → Refuses g.N.Name.start g.M.Mapper.span g.M.Mapper.runs g.M.Mapper.refused c.in-Err.number c.args.self.now c.seat_slot.new.self
+    → Refuses g.N.Name.facts.start g.M.Mapper.span g.M.Mapper.runs g.M.Mapper.refused c.in-Err.number c.args.self.now c.seat_slot.new.self
 refuses g c =
-    refuses_at g.N.Name.start g.M.Mapper.span g.M.Mapper.runs g.M.Mapper.refused c.in-Err.number c.self.view_is c.self.invariant
+    refuses_at g.N.Name.facts.start g.M.Mapper.span g.M.Mapper.runs g.M.Mapper.refused c.in-Err.number c.self.view_is c.self.invariant
     c.in-Err.ensures.working
     c.in-Err.ensures.on
     c.in-Err.ensures.hand
@@ -163,7 +163,7 @@ refuses g c =
 
 pub invariant_of-self-in-Err : goal.invariant_of-self-in-Err
 invariant_of-self-in-Err g c =
-    rests_excuse g.N.Name.start g.M.Mapper.span g.M.Mapper.runs g.M.Mapper.refused (works_of c.self-inside-2.view_is) c.in-Err.number (refuses g c)
+    rests_excuse g.N.Name.facts.start g.M.Mapper.span g.M.Mapper.runs g.M.Mapper.refused (works_of c.self-inside-2.view_is) c.in-Err.number (refuses g c)
     c.excuse_to_hand.new.seat
     c.excuse_to_hand.ensures.seat
 
@@ -183,7 +183,7 @@ gains-in-Err g c =
     excused c.in-Err.number c.excuse_to_hand.result.number c.args.hand.now.view c.match-first.hand.view c.excuse_to_hand.new.hand.view _
     c.excuse_to_hand.ensures.excuse
     (tried-in-Err g c).learns
-    (excuse_found g.N.Name.start g.M.Mapper.span g.M.Mapper.runs g.M.Mapper.refused (works_of c.self-inside-2.view_is) c.in-Err.number (refuses g c))
+    (excuse_found g.N.Name.facts.start g.M.Mapper.span g.M.Mapper.runs g.M.Mapper.refused (works_of c.self-inside-2.view_is) c.in-Err.number (refuses g c))
     c.excuse_to_hand.ensures.view
 
 pub returns-in-Err-clause-others : goal.returns-in-Err-clause-others

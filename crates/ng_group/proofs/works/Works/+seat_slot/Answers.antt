@@ -32,17 +32,17 @@ opened g t c = record {
 
 -- a meta was found
 found : (g : Over) (t : ℕ) (c : In_ok-meta g t)
-    → HasFound g.N.Name.start g.M.Mapper.span g.M.Mapper.runs g.M.Mapper.refused c.args.class c.in_ok-meta.meta c.args.self.now
+    → HasFound g.N.Name.facts.start g.M.Mapper.span g.M.Mapper.runs g.M.Mapper.refused c.args.class c.in_ok-meta.meta c.args.self.now
     (record (opened g t c) { seat = c.find_meta.new.seat; stock = c.find_meta.new.stock; mapper = c.find_meta.new.mapper })
 found g t c =
-    meta_found g.N.Name.start g.M.Mapper.span g.M.Mapper.runs g.M.Mapper.refused c.find_meta.new.mapper
+    meta_found g.N.Name.facts.start g.M.Mapper.span g.M.Mapper.runs g.M.Mapper.refused c.find_meta.new.mapper
     c.self.view_is c.requires.class c.requires.idle c.in_default.ensures.only c.in_default.ensures.none c.in_default.ensures.working
     c.in_ok-meta.ensures.mapper c.in_ok-meta.ensures.stock c.in_ok-meta.ensures.ok c.in_ok-meta.ensures.calm
 
 -- what the rules were asked of its group
 asked : (g : Over) (t : ℕ) (c : In_ok-meta g t) {ask : Ask} {count : ℕ} → IsAsk c.self.inside.usage c.self.inside.bounce c.args.class ask
     → g.P.Rules.count_gives c.self.inside.rules ask count → IsCount ask.class count
-    → WasAsked g.N.Name.start g.M.Mapper.runs g.P.Rules.count_gives c.args.class c.args.self.now (opened g t c)
+    → WasAsked g.N.Name.facts.start g.M.Mapper.runs g.P.Rules.count_gives c.args.class c.args.self.now (opened g t c)
     c.in_ok-meta.meta c.find_meta.new.seat c.find_meta.new.stock c.find_meta.new.mapper ask count
 asked g t c asks answer allowed = record {
   only = only_inside c.args.class c.args.self.now (opened g t c) c.serve_ring.new.self c.self.view_is c.in_default.ensures.only;
@@ -55,9 +55,9 @@ asked g t c asks answer allowed = record {
 
 -- a run for it was refused, and the meta is still in hand
 run_refused : (g : Over) (t : ℕ) (c : In-Err g t)
-    → HasMeta g.N.Name.start g.M.Mapper.span g.M.Mapper.runs g.M.Mapper.refused c.args.class c.in_ok-meta.meta c.args.self.now c.build_mapped.new.self
+    → HasMeta g.N.Name.facts.start g.M.Mapper.span g.M.Mapper.runs g.M.Mapper.refused c.args.class c.in_ok-meta.meta c.args.self.now c.build_mapped.new.self
 run_refused g t c =
-    let there = meta_found g.N.Name.start g.M.Mapper.span g.M.Mapper.runs g.M.Mapper.refused c.find_meta.new.mapper
+    let there = meta_found g.N.Name.facts.start g.M.Mapper.span g.M.Mapper.runs g.M.Mapper.refused c.find_meta.new.mapper
     c.self.view_is c.requires.class c.requires.idle c.in_default.ensures.only c.in_default.ensures.none c.in_default.ensures.working
     c.in_ok-meta.ensures.mapper c.in_ok-meta.ensures.stock c.in_ok-meta.ensures.ok c.in_ok-meta.ensures.calm in
     meta_then there.has
@@ -69,9 +69,9 @@ run_refused g t c =
 
 -- so it is after the call for a slot that carries the group
 seated : (g : Over) (t : ℕ) (c : After-seat_slot g t)
-    → HasMeta g.N.Name.start g.M.Mapper.span g.M.Mapper.runs g.M.Mapper.refused c.args.class c.in_ok-meta.meta c.args.self.now c.seat_slot.new.self
+    → HasMeta g.N.Name.facts.start g.M.Mapper.span g.M.Mapper.runs g.M.Mapper.refused c.args.class c.in_ok-meta.meta c.args.self.now c.seat_slot.new.self
 seated g t c =
-    let there = meta_found g.N.Name.start g.M.Mapper.span g.M.Mapper.runs g.M.Mapper.refused c.find_meta.new.mapper
+    let there = meta_found g.N.Name.facts.start g.M.Mapper.span g.M.Mapper.runs g.M.Mapper.refused c.find_meta.new.mapper
     c.self.view_is c.requires.class c.requires.idle c.in_default.ensures.only c.in_default.ensures.none c.in_default.ensures.working
     c.in_ok-meta.ensures.mapper c.in_ok-meta.ensures.stock c.in_ok-meta.ensures.ok c.in_ok-meta.ensures.calm in
     meta_then there.has
@@ -87,17 +87,17 @@ returns-in-Some-clause-below g t c =
 
 pub find_meta-requires-clause-stock : goal.find_meta-requires-clause-stock
 find_meta-requires-clause-stock g t c =
-    stock_at g.N.Name.start g.M.Mapper.span g.M.Mapper.runs g.M.Mapper.refused c.self.view_is c.in_default.ensures.working
+    stock_at g.N.Name.facts.start g.M.Mapper.span g.M.Mapper.runs g.M.Mapper.refused c.self.view_is c.in_default.ensures.working
 
 pub returns-in_err-meta-clause-on : goal.returns-in_err-meta-clause-on
 returns-in_err-meta-clause-on g t c =
-    page_on g.N.Name.start g.M.Mapper.span g.M.Mapper.runs g.M.Mapper.refused c.find_meta.new.mapper
+    page_on g.N.Name.facts.start g.M.Mapper.span g.M.Mapper.runs g.M.Mapper.refused c.find_meta.new.mapper
     c.self.view_is c.requires.class c.requires.idle c.in_default.ensures.only c.in_default.ensures.none c.in_default.ensures.working
     c.in_err-meta.ensures.mapper c.in_err-meta.ensures.stock c.in_err-meta.ensures.err
 
 pub returns-in_err-meta-clause-below : goal.returns-in_err-meta-clause-below
 returns-in_err-meta-clause-below g t c =
-    page_below g.N.Name.start g.M.Mapper.span g.M.Mapper.runs g.M.Mapper.refused c.find_meta.new.mapper
+    page_below g.N.Name.facts.start g.M.Mapper.span g.M.Mapper.runs g.M.Mapper.refused c.find_meta.new.mapper
     c.self.view_is c.requires.class c.requires.idle c.in_default.ensures.only c.in_default.ensures.none c.in_default.ensures.working
     c.in_err-meta.ensures.mapper c.in_err-meta.ensures.stock c.in_err-meta.ensures.err
 
@@ -215,7 +215,7 @@ build_nested-requires-clause-bare g t c =
 
 pub put-requires-in-Err-seat_slot-clause-absent : goal.put-requires-in-Err-seat_slot-clause-absent
 put-requires-in-Err-seat_slot-clause-absent g t c =
-    absent_at g.N.Name.start g.M.Mapper.span g.M.Mapper.runs g.M.Mapper.refused c.in_ok-meta.meta c.self-in-Err-seat_slot.view_is
+    absent_at g.N.Name.facts.start g.M.Mapper.span g.M.Mapper.runs g.M.Mapper.refused c.in_ok-meta.meta c.self-in-Err-seat_slot.view_is
     (seated g t (goal.at.put-requires-in-Err-seat_slot-clause-absent g t c).After-seat_slot).brings.has
 
 pub returns-in-Ok-seat_slot-clause-hand : goal.returns-in-Ok-seat_slot-clause-hand

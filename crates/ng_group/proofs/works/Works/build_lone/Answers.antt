@@ -13,22 +13,22 @@ use Rattle.ng_group.proofs.works.Works.build_lone.Goals as goal
 
 pub returns-in_err-base-clause-working : goal.returns-in_err-base-clause-working
 returns-in_err-base-clause-working g c =
-    let may = may_build_lone g.N.Name.start g.M.Mapper.span g.M.Mapper.runs g.M.Mapper.refused c.args.meta c.self.view_is c.requires.working c.requires.meta in
+    let may = may_build_lone g.N.Name.facts.start g.M.Mapper.span g.M.Mapper.runs g.M.Mapper.refused c.args.meta c.self.view_is c.requires.working c.requires.meta in
     working_refused may.working c.in_err-base.ensures.err c.in_err-base.ensures.constant c.in_err-base.ensures.kept c.in_err-base.ensures.mapper.counted
 
 pub publish_run-requires-clause-meta : goal.publish_run-requires-clause-meta
 publish_run-requires-clause-meta g c =
-    let may = may_build_lone g.N.Name.start g.M.Mapper.span g.M.Mapper.runs g.M.Mapper.refused c.args.meta c.self.view_is c.requires.working c.requires.meta in
+    let may = may_build_lone g.N.Name.facts.start g.M.Mapper.span g.M.Mapper.runs g.M.Mapper.refused c.args.meta c.self.view_is c.requires.working c.requires.meta in
     meta_ready c.in_ok-base.ensures.ok may.hand.free
 
 pub publish_run-requires-clause-run : goal.publish_run-requires-clause-run
 publish_run-requires-clause-run g c =
-    let may = may_build_lone g.N.Name.start g.M.Mapper.span g.M.Mapper.runs g.M.Mapper.refused c.args.meta c.self.view_is c.requires.working c.requires.meta in
+    let may = may_build_lone g.N.Name.facts.start g.M.Mapper.span g.M.Mapper.runs g.M.Mapper.refused c.args.meta c.self.view_is c.requires.working c.requires.meta in
     run_ready c.in_ok-base.ensures.ok may.hand.free
 
 pub publish_run-requires-clause-apart : goal.publish_run-requires-clause-apart
 publish_run-requires-clause-apart g c =
-    let may = may_build_lone g.N.Name.start g.M.Mapper.span g.M.Mapper.runs g.M.Mapper.refused c.args.meta c.self.view_is c.requires.working c.requires.meta in
+    let may = may_build_lone g.N.Name.facts.start g.M.Mapper.span g.M.Mapper.runs g.M.Mapper.refused c.args.meta c.self.view_is c.requires.working c.requires.meta in
     meta_outside c.in_ok-base.ensures.ok may.hand.free (g.M.Mapper.span c.map_run.new.mapper) (g.M.Mapper.runs c.map_run.new.mapper) (g.met.M.Mapper.laid c.map_run.new.mapper) c.in_ok-base.ensures.mapper.mapped
 
 pub note_ring-requires-clause-live : goal.note_ring-requires-clause-live
@@ -46,9 +46,9 @@ holds g c =
     let fits : c.args.bytes + 16 + 4 ≤ 4096 * c.div_ceil-pages.result = pages_hold (c.args.bytes + 16 + 4) c.div_ceil-pages.result c.div_ceil-pages.ensures in
     omega (arith, fits)
 
-comes : (g : Over) (c : goal.After-note_ring g) → ComesAlone g.N.Name.start (g.M.Mapper.span c.self.inside.mapper) (g.M.Mapper.span c.map_run.new.mapper) (g.M.Mapper.runs c.self.inside.mapper) (g.M.Mapper.runs c.map_run.new.mapper) (g.M.Mapper.refused c.self.inside.mapper) (g.M.Mapper.refused c.map_run.new.mapper) (before g c) (group g c) c.map_run.new.seat c.publish_run.new.seat c.note_ring.result c.note_ring.new.seat
+comes : (g : Over) (c : goal.After-note_ring g) → ComesAlone g.N.Name.facts.start (g.M.Mapper.span c.self.inside.mapper) (g.M.Mapper.span c.map_run.new.mapper) (g.M.Mapper.runs c.self.inside.mapper) (g.M.Mapper.runs c.map_run.new.mapper) (g.M.Mapper.refused c.self.inside.mapper) (g.M.Mapper.refused c.map_run.new.mapper) (before g c) (group g c) c.map_run.new.seat c.publish_run.new.seat c.note_ring.result c.note_ring.new.seat
 comes g c =
-    let may = may_build_lone g.N.Name.start g.M.Mapper.span g.M.Mapper.runs g.M.Mapper.refused c.args.meta c.self.view_is c.requires.working c.requires.meta in
+    let may = may_build_lone g.N.Name.facts.start g.M.Mapper.span g.M.Mapper.runs g.M.Mapper.refused c.args.meta c.self.view_is c.requires.working c.requires.meta in
     let told = c.in_ok-base.ensures in
     let fits : c.args.bytes + 20 ≤ 4096 * c.div_ceil-pages.result = holds g c in
     let some : 0 < c.div_ceil-pages.result = omega (arith, fits) in
@@ -63,7 +63,7 @@ comes g c =
       publishes = c.publish_run.ensures;
       unlists = c.note_ring.ensures;
       kind = record { lone = refl; single = refl };
-      group = lone_in_space g.N.Name.start (group g c) (record { lone = refl; single = refl }) some may.hand.free.place told.ok.space.few told.ok.space.whole told.ok.space.below;
+      group = lone_in_space g.N.Name.facts.start (group g c) (record { lone = refl; single = refl }) some may.hand.free.place told.ok.space.few told.ok.space.whole told.ok.space.below;
       paged = some;
       free = may.hand.free;
       out = may.hand.taken;
@@ -102,5 +102,5 @@ returns-in_err-base-clause-most g c =
 
 pub returns-in_err-base-clause-left : goal.returns-in_err-base-clause-left
 returns-in_err-base-clause-left g c =
-    let may = may_build_lone g.N.Name.start g.M.Mapper.span g.M.Mapper.runs g.M.Mapper.refused c.args.meta c.self.view_is c.requires.working c.requires.meta in
+    let may = may_build_lone g.N.Name.facts.start g.M.Mapper.span g.M.Mapper.runs g.M.Mapper.refused c.args.meta c.self.view_is c.requires.working c.requires.meta in
     on_err c.from_residual.result (lone_left _ c.args.self.now _ c.self.view_is (view_refused may.working c.in_err-base.ensures.err) refl refl refl refl)

@@ -13,28 +13,28 @@ use Rattle.ng_group.proofs.works.Works.build_mapped.Goals as goal
 
 pub returns-in_err-base-clause-working : goal.returns-in_err-base-clause-working
 returns-in_err-base-clause-working g c =
-    let may = may_build g.N.Name.start g.M.Mapper.span g.M.Mapper.runs g.M.Mapper.refused c.args.ask.now.class c.args.meta c.self.view_is c.requires.working c.requires.meta c.requires.bare in
+    let may = may_build g.N.Name.facts.start g.M.Mapper.span g.M.Mapper.runs g.M.Mapper.refused c.args.ask.now.class c.args.meta c.self.view_is c.requires.working c.requires.meta c.requires.bare in
     working_refused may.working c.in_err-base.ensures.err c.in_err-base.ensures.constant c.in_err-base.ensures.kept c.in_err-base.ensures.mapper.counted
 
 pub returns-in_err-base-clause-left : goal.returns-in_err-base-clause-left
 returns-in_err-base-clause-left g c =
-    let may = may_build g.N.Name.start g.M.Mapper.span g.M.Mapper.runs g.M.Mapper.refused c.args.ask.now.class c.args.meta c.self.view_is c.requires.working c.requires.meta c.requires.bare in
+    let may = may_build g.N.Name.facts.start g.M.Mapper.span g.M.Mapper.runs g.M.Mapper.refused c.args.ask.now.class c.args.meta c.self.view_is c.requires.working c.requires.meta c.requires.bare in
     on_err c.from_residual.result (subst (λ (s : State g.row.M.Denot g.row.P.Denot). LeavesAll s (record { seat = c.map_run.new.seat; rings = c.self.inside.rings; stock = c.self.inside.stock; parents = c.self.inside.parents; usage = c.self.inside.usage; bounces = c.step.new.self; counter = c.self.inside.counter; mapper = c.map_run.new.mapper; rules = c.self.inside.rules })) c.self.view_is
     (record { seat = view_refused may.working c.in_err-base.ensures.err; rings = refl; parents = refl; usage = refl; counter = refl }))
 
 pub publish_run-requires-clause-meta : goal.publish_run-requires-clause-meta
 publish_run-requires-clause-meta g c =
-    let may = may_build g.N.Name.start g.M.Mapper.span g.M.Mapper.runs g.M.Mapper.refused c.args.ask.now.class c.args.meta c.self.view_is c.requires.working c.requires.meta c.requires.bare in
+    let may = may_build g.N.Name.facts.start g.M.Mapper.span g.M.Mapper.runs g.M.Mapper.refused c.args.ask.now.class c.args.meta c.self.view_is c.requires.working c.requires.meta c.requires.bare in
     meta_ready c.in_ok-base.ensures.ok may.hand.free
 
 pub publish_run-requires-clause-run : goal.publish_run-requires-clause-run
 publish_run-requires-clause-run g c =
-    let may = may_build g.N.Name.start g.M.Mapper.span g.M.Mapper.runs g.M.Mapper.refused c.args.ask.now.class c.args.meta c.self.view_is c.requires.working c.requires.meta c.requires.bare in
+    let may = may_build g.N.Name.facts.start g.M.Mapper.span g.M.Mapper.runs g.M.Mapper.refused c.args.ask.now.class c.args.meta c.self.view_is c.requires.working c.requires.meta c.requires.bare in
     run_ready c.in_ok-base.ensures.ok may.hand.free
 
 pub publish_run-requires-clause-apart : goal.publish_run-requires-clause-apart
 publish_run-requires-clause-apart g c =
-    let may = may_build g.N.Name.start g.M.Mapper.span g.M.Mapper.runs g.M.Mapper.refused c.args.ask.now.class c.args.meta c.self.view_is c.requires.working c.requires.meta c.requires.bare in
+    let may = may_build g.N.Name.facts.start g.M.Mapper.span g.M.Mapper.runs g.M.Mapper.refused c.args.ask.now.class c.args.meta c.self.view_is c.requires.working c.requires.meta c.requires.bare in
     meta_outside c.in_ok-base.ensures.ok may.hand.free (g.M.Mapper.span c.map_run.new.mapper) (g.M.Mapper.runs c.map_run.new.mapper) (g.met.M.Mapper.laid c.map_run.new.mapper) c.in_ok-base.ensures.mapper.mapped
 
 pub publish_run-requires-clause-shape : goal.publish_run-requires-clause-shape
@@ -42,13 +42,13 @@ publish_run-requires-clause-shape g c = inl (let shape = c.run_shape-shape in sh
 
 pub enter_first-requires-clause-absent : goal.enter_first-requires-clause-absent
 enter_first-requires-clause-absent g c =
-    let may = may_build g.N.Name.start g.M.Mapper.span g.M.Mapper.runs g.M.Mapper.refused c.args.ask.now.class c.args.meta c.self.view_is c.requires.working c.requires.meta c.requires.bare in
+    let may = may_build g.N.Name.facts.start g.M.Mapper.span g.M.Mapper.runs g.M.Mapper.refused c.args.ask.now.class c.args.meta c.self.view_is c.requires.working c.requires.meta c.requires.bare in
     let stand = c.stand_once.ensures in
     absent may.working (record { classes = stand.classes; places = stand.places; once = stand.once; apart = stand.apart }) may.hand.free
 
 pub enter_first-requires-clause-few : goal.enter_first-requires-clause-few
 enter_first-requires-clause-few g c =
-    let may = may_build g.N.Name.start g.M.Mapper.span g.M.Mapper.runs g.M.Mapper.refused c.args.ask.now.class c.args.meta c.self.view_is c.requires.working c.requires.meta c.requires.bare in
+    let may = may_build g.N.Name.facts.start g.M.Mapper.span g.M.Mapper.runs g.M.Mapper.refused c.args.ask.now.class c.args.meta c.self.view_is c.requires.working c.requires.meta c.requires.bare in
     few_used c.args.ask.now.class c.run_shape-shape.result.count may.working.stands c.args.space.now.range.addressed c.requires.class.class c.run_shape-shape.ensures.slots.most
 
 -- the group that came, and the books before it
@@ -58,9 +58,9 @@ group g c = record { meta = c.args.meta; base = c.in_ok-base.base; tag = c.args.
 abbrev before : (g : Over) (c : goal.After-enter_first g) → Ledger
 before g c = record { seat = c.self.inside.seat; rings = c.self.inside.rings; stock = c.self.inside.stock; parents = c.self.inside.parents; usage = c.self.inside.usage }
 
-comes : (g : Over) (c : goal.After-enter_first g) → ComesOnRun g.N.Name.start (g.M.Mapper.span c.self.inside.mapper) (g.M.Mapper.span c.map_run.new.mapper) (g.M.Mapper.runs c.self.inside.mapper) (g.M.Mapper.runs c.map_run.new.mapper) (g.M.Mapper.refused c.self.inside.mapper) (g.M.Mapper.refused c.map_run.new.mapper) (before g c) (group g c) c.args.ask.now.class c.run_shape-shape.result.count c.first_active.result c.map_run.new.seat c.publish_run.new.seat
+comes : (g : Over) (c : goal.After-enter_first g) → ComesOnRun g.N.Name.facts.start (g.M.Mapper.span c.self.inside.mapper) (g.M.Mapper.span c.map_run.new.mapper) (g.M.Mapper.runs c.self.inside.mapper) (g.M.Mapper.runs c.map_run.new.mapper) (g.M.Mapper.refused c.self.inside.mapper) (g.M.Mapper.refused c.map_run.new.mapper) (before g c) (group g c) c.args.ask.now.class c.run_shape-shape.result.count c.first_active.result c.map_run.new.seat c.publish_run.new.seat
 comes g c =
-    let may = may_build g.N.Name.start g.M.Mapper.span g.M.Mapper.runs g.M.Mapper.refused c.args.ask.now.class c.args.meta c.self.view_is c.requires.working c.requires.meta c.requires.bare in
+    let may = may_build g.N.Name.facts.start g.M.Mapper.span g.M.Mapper.runs g.M.Mapper.refused c.args.ask.now.class c.args.meta c.self.view_is c.requires.working c.requires.meta c.requires.bare in
     let stand = c.stand_once.ensures in
     let told = c.in_ok-base.ensures in
     let shape = c.run_shape-shape.ensures in
@@ -80,7 +80,7 @@ comes g c =
       known = c.requires.class.class;
       of_class = refl;
       of_slots = omega (arith, some);
-      group = group_in_space g.N.Name.start (group g c) (let shape = c.run_shape-shape in shaped_group c.args.ask.now c.args.bytes c.args.count c.args.meta c.in_ok-base.base shape.result c.requires.class.class c.requires.bytes c.requires.large shape.ensures.shape shape.ensures.slots shape.ensures.some shape.ensures.fits) (omega arith) may.hand.free.place (omega (arith, some, most)) (omega (arith, pages)) told.ok.space.whole told.ok.space.below;
+      group = group_in_space g.N.Name.facts.start (group g c) (let shape = c.run_shape-shape in shaped_group c.args.ask.now c.args.bytes c.args.count c.args.meta c.in_ok-base.base shape.result c.requires.class.class c.requires.bytes c.requires.large shape.ensures.shape shape.ensures.slots shape.ensures.some shape.ensures.fits) (omega arith) may.hand.free.place (omega (arith, some, most)) (omega (arith, pages)) told.ok.space.whole told.ok.space.below;
       paged = shape.some;
       free = may.hand.free;
       out = may.hand.taken;
@@ -89,7 +89,7 @@ comes g c =
 
 pub returns-clause-working : goal.returns-clause-working
 returns-clause-working g c =
-    subst (λ (s : State g.row.M.Denot g.row.P.Denot). IsWorking g.N.Name.start (g.M.Mapper.span s.mapper) (g.M.Mapper.runs s.mapper) (g.M.Mapper.refused s.mapper) (ledger_of s)) (sym c.enter_first.ensures) (working_mapped (comes g c))
+    subst (λ (s : State g.row.M.Denot g.row.P.Denot). IsWorking g.N.Name.facts.start (g.M.Mapper.span s.mapper) (g.M.Mapper.runs s.mapper) (g.M.Mapper.refused s.mapper) (ledger_of s)) (sym c.enter_first.ensures) (working_mapped (comes g c))
 
 pub returns-clause-below : goal.returns-clause-below
 returns-clause-below g c =

@@ -12,58 +12,58 @@ use Rattle.ng_group.proofs.works.Works.build_nested.Goals as goal
 
 pub overflow_add-carrier : goal.overflow_add-carrier
 overflow_add-carrier g c =
-    let may = may_nest g.N.Name.start g.M.Mapper.span g.M.Mapper.runs g.M.Mapper.refused c.args.class c.args.count c.args.slot.0 c.args.slot.1 c.args.meta c.requires.slot.0 c.self.view_is c.requires.working c.requires.meta c.requires.bare c.requires.slot.3 in
+    let may = may_nest g.N.Name.facts.start g.M.Mapper.span g.M.Mapper.runs g.M.Mapper.refused c.args.class c.args.count c.args.slot.0 c.args.slot.1 c.args.meta c.requires.slot.0 c.self.view_is c.requires.working c.requires.meta c.requires.bare c.requires.slot.3 in
     let low = found_low may.may.working c.requires.class c.requires.count c.requires.small c.args.space.now.range.addressed c.requires.slot.1 c.requires.slot.2 may.served c.group_of-group.result (c.group_of-group.ensures.group may.served.group may.served.there may.served.of_meta) in omega (arith, low)
 
 pub stride-requires-clause-class : goal.stride-requires-clause-class
 stride-requires-clause-class g c =
-    let may = may_nest g.N.Name.start g.M.Mapper.span g.M.Mapper.runs g.M.Mapper.refused c.args.class c.args.count c.args.slot.0 c.args.slot.1 c.args.meta c.requires.slot.0 c.self.view_is c.requires.working c.requires.meta c.requires.bare c.requires.slot.3 in
+    let may = may_nest g.N.Name.facts.start g.M.Mapper.span g.M.Mapper.runs g.M.Mapper.refused c.args.class c.args.count c.args.slot.0 c.args.slot.1 c.args.meta c.requires.slot.0 c.self.view_is c.requires.working c.requires.meta c.requires.bare c.requires.slot.3 in
     found_class may.may.working c.requires.class c.requires.count c.requires.small c.args.space.now.range.addressed c.requires.slot.1 c.requires.slot.2 may.served c.group_of-group.result (c.group_of-group.ensures.group may.served.group may.served.there may.served.of_meta)
 
 pub stride-requires-clause-maplen : goal.stride-requires-clause-maplen
 stride-requires-clause-maplen g c =
-    let may = may_nest g.N.Name.start g.M.Mapper.span g.M.Mapper.runs g.M.Mapper.refused c.args.class c.args.count c.args.slot.0 c.args.slot.1 c.args.meta c.requires.slot.0 c.self.view_is c.requires.working c.requires.meta c.requires.bare c.requires.slot.3 in
+    let may = may_nest g.N.Name.facts.start g.M.Mapper.span g.M.Mapper.runs g.M.Mapper.refused c.args.class c.args.count c.args.slot.0 c.args.slot.1 c.args.meta c.requires.slot.0 c.self.view_is c.requires.working c.requires.meta c.requires.bare c.requires.slot.3 in
     found_paged may.may.working c.requires.class c.requires.count c.requires.small c.args.space.now.range.addressed c.requires.slot.1 c.requires.slot.2 may.served c.group_of-group.result (c.group_of-group.ensures.group may.served.group may.served.there may.served.of_meta)
 
 pub slot_start-requires : goal.slot_start-requires
 slot_start-requires g c =
-    let may = may_nest g.N.Name.start g.M.Mapper.span g.M.Mapper.runs g.M.Mapper.refused c.args.class c.args.count c.args.slot.0 c.args.slot.1 c.args.meta c.requires.slot.0 c.self.view_is c.requires.working c.requires.meta c.requires.bare c.requires.slot.3 in
+    let may = may_nest g.N.Name.facts.start g.M.Mapper.span g.M.Mapper.runs g.M.Mapper.refused c.args.class c.args.count c.args.slot.0 c.args.slot.1 c.args.meta c.requires.slot.0 c.self.view_is c.requires.working c.requires.meta c.requires.bare c.requires.slot.3 in
     slot_low may.may.working c.requires.class c.requires.count c.requires.small c.args.space.now.range.addressed c.requires.slot.1 c.requires.slot.2 may.served c.group_of-group.result (c.group_of-group.ensures.group may.served.group may.served.there may.served.of_meta) c.stride.result c.stride.ensures.value
 
 pub publish_slot-requires-clause-meta : goal.publish_slot-requires-clause-meta
 publish_slot-requires-clause-meta g c =
-    let may = may_nest g.N.Name.start g.M.Mapper.span g.M.Mapper.runs g.M.Mapper.refused c.args.class c.args.count c.args.slot.0 c.args.slot.1 c.args.meta c.requires.slot.0 c.self.view_is c.requires.working c.requires.meta c.requires.bare c.requires.slot.3 in
+    let may = may_nest g.N.Name.facts.start g.M.Mapper.span g.M.Mapper.runs g.M.Mapper.refused c.args.class c.args.count c.args.slot.0 c.args.slot.1 c.args.meta c.requires.slot.0 c.self.view_is c.requires.working c.requires.meta c.requires.bare c.requires.slot.3 in
     meta_read c.group_of-group.ensures.loads may.may.hand.free
 
 pub publish_slot-requires-clause-whole : goal.publish_slot-requires-clause-whole
 publish_slot-requires-clause-whole g c =
-    let may = may_nest g.N.Name.start g.M.Mapper.span g.M.Mapper.runs g.M.Mapper.refused c.args.class c.args.count c.args.slot.0 c.args.slot.1 c.args.meta c.requires.slot.0 c.self.view_is c.requires.working c.requires.meta c.requires.bare c.requires.slot.3 in
+    let may = may_nest g.N.Name.facts.start g.M.Mapper.span g.M.Mapper.runs g.M.Mapper.refused c.args.class c.args.count c.args.slot.0 c.args.slot.1 c.args.meta c.requires.slot.0 c.self.view_is c.requires.working c.requires.meta c.requires.bare c.requires.slot.3 in
     subst (λ n. n % 16 ≡ 0) (sym c.slot_start.ensures) (slot_whole may.may.working c.requires.class c.requires.count c.requires.small c.args.space.now.range.addressed c.requires.slot.1 c.requires.slot.2 may.served c.group_of-group.result (c.group_of-group.ensures.group may.served.group may.served.there may.served.of_meta) c.stride.result c.stride.ensures.value c.stride.ensures.aligned)
 
 pub publish_slot-requires-clause-inside : goal.publish_slot-requires-clause-inside
 publish_slot-requires-clause-inside g c =
-    let may = may_nest g.N.Name.start g.M.Mapper.span g.M.Mapper.runs g.M.Mapper.refused c.args.class c.args.count c.args.slot.0 c.args.slot.1 c.args.meta c.requires.slot.0 c.self.view_is c.requires.working c.requires.meta c.requires.bare c.requires.slot.3 in
-    subst (λ n. n + c.stride.result ≤ 4096 * g.N.Name.start.pages) (sym c.slot_start.ensures) (slot_inside may.may.working c.requires.class c.requires.count c.requires.small c.args.space.now.range.addressed c.requires.slot.1 c.requires.slot.2 may.served c.group_of-group.result (c.group_of-group.ensures.group may.served.group may.served.there may.served.of_meta) c.stride.result c.stride.ensures.value)
+    let may = may_nest g.N.Name.facts.start g.M.Mapper.span g.M.Mapper.runs g.M.Mapper.refused c.args.class c.args.count c.args.slot.0 c.args.slot.1 c.args.meta c.requires.slot.0 c.self.view_is c.requires.working c.requires.meta c.requires.bare c.requires.slot.3 in
+    subst (λ n. n + c.stride.result ≤ 4096 * g.N.Name.facts.start.pages) (sym c.slot_start.ensures) (slot_inside may.may.working c.requires.class c.requires.count c.requires.small c.args.space.now.range.addressed c.requires.slot.1 c.requires.slot.2 may.served c.group_of-group.result (c.group_of-group.ensures.group may.served.group may.served.there may.served.of_meta) c.stride.result c.stride.ensures.value)
 
 pub publish_slot-requires-clause-carrier : goal.publish_slot-requires-clause-carrier
 publish_slot-requires-clause-carrier g c =
-    let may = may_nest g.N.Name.start g.M.Mapper.span g.M.Mapper.runs g.M.Mapper.refused c.args.class c.args.count c.args.slot.0 c.args.slot.1 c.args.meta c.requires.slot.0 c.self.view_is c.requires.working c.requires.meta c.requires.bare c.requires.slot.3 in
+    let may = may_nest g.N.Name.facts.start g.M.Mapper.span g.M.Mapper.runs g.M.Mapper.refused c.args.class c.args.count c.args.slot.0 c.args.slot.1 c.args.meta c.requires.slot.0 c.self.view_is c.requires.working c.requires.meta c.requires.bare c.requires.slot.3 in
     has_carrier may.may.working c.requires.class c.requires.count c.requires.small c.args.space.now.range.addressed c.requires.slot.1 c.requires.slot.2 may.served c.group_of-group.result (c.group_of-group.ensures.group may.served.group may.served.there may.served.of_meta) c.stride.result c.stride.ensures.value c.group_of-group.new.seat c.group_of-group.ensures.loads (record { meta = c.args.meta; base = c.slot_start.result; tag = c.args.class + 1; last = c.args.count - 1; maplen = 0 }) refl (let some : 1 ≤ c.args.count = c.requires.count.some in omega (arith, some)) refl c.slot_start.ensures
 
 pub set-requires-clause-index : goal.set-requires-clause-index
 set-requires-clause-index g c =
-    let may = may_nest g.N.Name.start g.M.Mapper.span g.M.Mapper.runs g.M.Mapper.refused c.args.class c.args.count c.args.slot.0 c.args.slot.1 c.args.meta c.requires.slot.0 c.self.view_is c.requires.working c.requires.meta c.requires.bare c.requires.slot.3 in
+    let may = may_nest g.N.Name.facts.start g.M.Mapper.span g.M.Mapper.runs g.M.Mapper.refused c.args.class c.args.count c.args.slot.0 c.args.slot.1 c.args.meta c.requires.slot.0 c.self.view_is c.requires.working c.requires.meta c.requires.bare c.requires.slot.3 in
     carrier_few may.may.working c.requires.class c.requires.count c.requires.small c.args.space.now.range.addressed c.requires.slot.1 c.requires.slot.2 may.served
 
 pub enter_first-requires-clause-absent : goal.enter_first-requires-clause-absent
 enter_first-requires-clause-absent g c =
-    let may = may_nest g.N.Name.start g.M.Mapper.span g.M.Mapper.runs g.M.Mapper.refused c.args.class c.args.count c.args.slot.0 c.args.slot.1 c.args.meta c.requires.slot.0 c.self.view_is c.requires.working c.requires.meta c.requires.bare c.requires.slot.3 in
+    let may = may_nest g.N.Name.facts.start g.M.Mapper.span g.M.Mapper.runs g.M.Mapper.refused c.args.class c.args.count c.args.slot.0 c.args.slot.1 c.args.meta c.requires.slot.0 c.self.view_is c.requires.working c.requires.meta c.requires.bare c.requires.slot.3 in
     let stand = c.stand_once.ensures in
     absent may.may.working (record { classes = stand.classes; places = stand.places; once = stand.once; apart = stand.apart }) may.may.hand.free
 
 pub enter_first-requires-clause-few : goal.enter_first-requires-clause-few
 enter_first-requires-clause-few g c =
-    let may = may_nest g.N.Name.start g.M.Mapper.span g.M.Mapper.runs g.M.Mapper.refused c.args.class c.args.count c.args.slot.0 c.args.slot.1 c.args.meta c.requires.slot.0 c.self.view_is c.requires.working c.requires.meta c.requires.bare c.requires.slot.3 in
+    let may = may_nest g.N.Name.facts.start g.M.Mapper.span g.M.Mapper.runs g.M.Mapper.refused c.args.class c.args.count c.args.slot.0 c.args.slot.1 c.args.meta c.requires.slot.0 c.self.view_is c.requires.working c.requires.meta c.requires.bare c.requires.slot.3 in
     few_used c.args.class c.args.count may.may.working.stands c.args.space.now.range.addressed c.requires.class c.requires.count.most
 
 -- the group that came, the books before it, and the slot that it is in
@@ -73,10 +73,10 @@ group g c = record { meta = c.args.meta; base = c.slot_start.result; tag = c.arg
 abbrev before : (g : Over) (c : goal.After-enter_first g) → Ledger
 before g c = record { seat = c.self.inside.seat; rings = c.self.inside.rings; stock = c.self.inside.stock; parents = c.self.inside.parents; usage = c.self.inside.usage }
 
-may : (g : Over) (c : goal.After-enter_first g) → MayNest g.N.Name.start (g.M.Mapper.span c.self.inside.mapper) (g.M.Mapper.runs c.self.inside.mapper) (g.M.Mapper.refused c.self.inside.mapper) (before g c) c.args.class c.args.count c.args.slot.0 c.args.slot.1 c.args.meta c.requires.slot.0
-may g c = may_nest g.N.Name.start g.M.Mapper.span g.M.Mapper.runs g.M.Mapper.refused c.args.class c.args.count c.args.slot.0 c.args.slot.1 c.args.meta c.requires.slot.0 c.self.view_is c.requires.working c.requires.meta c.requires.bare c.requires.slot.3
+may : (g : Over) (c : goal.After-enter_first g) → MayNest g.N.Name.facts.start (g.M.Mapper.span c.self.inside.mapper) (g.M.Mapper.runs c.self.inside.mapper) (g.M.Mapper.refused c.self.inside.mapper) (before g c) c.args.class c.args.count c.args.slot.0 c.args.slot.1 c.args.meta c.requires.slot.0
+may g c = may_nest g.N.Name.facts.start g.M.Mapper.span g.M.Mapper.runs g.M.Mapper.refused c.args.class c.args.count c.args.slot.0 c.args.slot.1 c.args.meta c.requires.slot.0 c.self.view_is c.requires.working c.requires.meta c.requires.bare c.requires.slot.3
 
-comes : (g : Over) (c : goal.After-enter_first g) → ComesInSlot g.N.Name.start (g.M.Mapper.span c.self.inside.mapper) (g.M.Mapper.runs c.self.inside.mapper) (g.M.Mapper.refused c.self.inside.mapper) (before g c) (group g c) (may g c).served.group c.args.class c.args.count (c.args.count - 1) c.args.slot.0 c.args.slot.1 c.group_of-group.new.seat c.publish_slot.new.seat c.set.new.self
+comes : (g : Over) (c : goal.After-enter_first g) → ComesInSlot g.N.Name.facts.start (g.M.Mapper.span c.self.inside.mapper) (g.M.Mapper.runs c.self.inside.mapper) (g.M.Mapper.refused c.self.inside.mapper) (before g c) (group g c) (may g c).served.group c.args.class c.args.count (c.args.count - 1) c.args.slot.0 c.args.slot.1 c.group_of-group.new.seat c.publish_slot.new.seat c.set.new.self
 comes g c =
     let may = may g c in
     let stand = c.stand_once.ensures in
@@ -106,7 +106,7 @@ comes g c =
 
 pub returns-clause-working : goal.returns-clause-working
 returns-clause-working g c =
-    subst (λ (s : State g.row.M.Denot g.row.P.Denot). IsWorking g.N.Name.start (g.M.Mapper.span s.mapper) (g.M.Mapper.runs s.mapper) (g.M.Mapper.refused s.mapper) (ledger_of s)) (sym c.enter_first.ensures) (working_nested (comes g c))
+    subst (λ (s : State g.row.M.Denot g.row.P.Denot). IsWorking g.N.Name.facts.start (g.M.Mapper.span s.mapper) (g.M.Mapper.runs s.mapper) (g.M.Mapper.refused s.mapper) (ledger_of s)) (sym c.enter_first.ensures) (working_nested (comes g c))
 
 pub returns-clause-on : goal.returns-clause-on
 returns-clause-on g c =

@@ -14,98 +14,98 @@ retire_group-requires-clause-group g c =
 
 pub drop_run-requires-clause-whole : goal.drop_run-requires-clause-whole
 drop_run-requires-clause-whole g c =
-    let e = gone g.N.Name.start g.M.Mapper.span g.M.Mapper.runs g.M.Mapper.refused c.args.meta c.args.group.now c.self.view_is c.leave_any_ring.ensures.only c.leave_any_ring.ensures.working c.leave_any_ring.ensures.whole c.leave_any_ring.ensures.left c.retire_group.ensures.ends c.requires.group in
+    let e = gone g.N.Name.facts.start g.M.Mapper.span g.M.Mapper.runs g.M.Mapper.refused c.args.meta c.args.group.now c.self.view_is c.leave_any_ring.ensures.only c.leave_any_ring.ensures.working c.leave_any_ring.ensures.whole c.leave_any_ring.ensures.left c.retire_group.ensures.ends c.requires.group in
     run_whole e c.if-group-gt0.true (g.met.M.Mapper.laid e.mid.mapper)
 
 pub drop_run-requires-clause-inside : goal.drop_run-requires-clause-inside
 drop_run-requires-clause-inside g c =
-    let e = gone g.N.Name.start g.M.Mapper.span g.M.Mapper.runs g.M.Mapper.refused c.args.meta c.args.group.now c.self.view_is c.leave_any_ring.ensures.only c.leave_any_ring.ensures.working c.leave_any_ring.ensures.whole c.leave_any_ring.ensures.left c.retire_group.ensures.ends c.requires.group in
+    let e = gone g.N.Name.facts.start g.M.Mapper.span g.M.Mapper.runs g.M.Mapper.refused c.args.meta c.args.group.now c.self.view_is c.leave_any_ring.ensures.only c.leave_any_ring.ensures.working c.leave_any_ring.ensures.whole c.leave_any_ring.ensures.left c.retire_group.ensures.ends c.requires.group in
     run_inside e c.if-group-gt0.true (g.met.M.Mapper.laid e.mid.mapper) (g.met.M.Mapper.bounded e.mid.mapper)
 
 pub drop_run-requires-clause-idle : goal.drop_run-requires-clause-idle
 drop_run-requires-clause-idle g c =
-    let e = gone g.N.Name.start g.M.Mapper.span g.M.Mapper.runs g.M.Mapper.refused c.args.meta c.args.group.now c.self.view_is c.leave_any_ring.ensures.only c.leave_any_ring.ensures.working c.leave_any_ring.ensures.whole c.leave_any_ring.ensures.left c.retire_group.ensures.ends c.requires.group in
+    let e = gone g.N.Name.facts.start g.M.Mapper.span g.M.Mapper.runs g.M.Mapper.refused c.args.meta c.args.group.now c.self.view_is c.leave_any_ring.ensures.only c.leave_any_ring.ensures.working c.leave_any_ring.ensures.whole c.leave_any_ring.ensures.left c.retire_group.ensures.ends c.requires.group in
     run_idle e c.if-group-gt0.true (g.met.M.Mapper.laid e.mid.mapper)
 
 pub unmap-requires : goal.unmap-requires
 unmap-requires g c =
-    let e = gone g.N.Name.start g.M.Mapper.span g.M.Mapper.runs g.M.Mapper.refused c.args.meta c.args.group.now c.self.view_is c.leave_any_ring.ensures.only c.leave_any_ring.ensures.working c.leave_any_ring.ensures.whole c.leave_any_ring.ensures.left c.retire_group.ensures.ends c.requires.group in
+    let e = gone g.N.Name.facts.start g.M.Mapper.span g.M.Mapper.runs g.M.Mapper.refused c.args.meta c.args.group.now c.self.view_is c.leave_any_ring.ensures.only c.leave_any_ring.ensures.working c.leave_any_ring.ensures.whole c.leave_any_ring.ensures.left c.retire_group.ensures.ends c.requires.group in
     run_live e c.if-group-gt0.true (g.met.M.Mapper.laid e.mid.mapper)
 
 pub returns-then-group-gt0-clause-working : goal.returns-then-group-gt0-clause-working
 returns-then-group-gt0-clause-working g c =
-    let e = gone g.N.Name.start g.M.Mapper.span g.M.Mapper.runs g.M.Mapper.refused c.args.meta c.args.group.now c.self.view_is c.leave_any_ring.ensures.only c.leave_any_ring.ensures.working c.leave_any_ring.ensures.whole c.leave_any_ring.ensures.left c.retire_group.ensures.ends c.requires.group in
+    let e = gone g.N.Name.facts.start g.M.Mapper.span g.M.Mapper.runs g.M.Mapper.refused c.args.meta c.args.group.now c.self.view_is c.leave_any_ring.ensures.only c.leave_any_ring.ensures.working c.leave_any_ring.ensures.whole c.leave_any_ring.ensures.left c.retire_group.ensures.ends c.requires.group in
     run_state e c.if-group-gt0.true (g.met.M.Mapper.laid e.mid.mapper) c.drop_run.new.seat c.drop_run.ensures.view c.unmap.new.self c.unmap.ensures.unmapped c.drop_run.ensures.kept c.unmap.ensures.constant c.unmap.ensures.calm
 
 pub returns-then-group-gt0-clause-hand : goal.returns-then-group-gt0-clause-hand
 returns-then-group-gt0-clause-hand g c =
-    let e = gone g.N.Name.start g.M.Mapper.span g.M.Mapper.runs g.M.Mapper.refused c.args.meta c.args.group.now c.self.view_is c.leave_any_ring.ensures.only c.leave_any_ring.ensures.working c.leave_any_ring.ensures.whole c.leave_any_ring.ensures.left c.retire_group.ensures.ends c.requires.group in
+    let e = gone g.N.Name.facts.start g.M.Mapper.span g.M.Mapper.runs g.M.Mapper.refused c.args.meta c.args.group.now c.self.view_is c.leave_any_ring.ensures.only c.leave_any_ring.ensures.working c.leave_any_ring.ensures.whole c.leave_any_ring.ensures.left c.retire_group.ensures.ends c.requires.group in
     run_in_hand e c.if-group-gt0.true (g.met.M.Mapper.laid e.mid.mapper) c.drop_run.new.seat c.drop_run.ensures.view c.unmap.new.self c.unmap.ensures.unmapped c.drop_run.ensures.kept (g.met.M.Mapper.bounded e.mid.mapper)
 
 pub returns-then-group-gt0-clause-fewer : goal.returns-then-group-gt0-clause-fewer
 returns-then-group-gt0-clause-fewer g c =
-    let e = gone g.N.Name.start g.M.Mapper.span g.M.Mapper.runs g.M.Mapper.refused c.args.meta c.args.group.now c.self.view_is c.leave_any_ring.ensures.only c.leave_any_ring.ensures.working c.leave_any_ring.ensures.whole c.leave_any_ring.ensures.left c.retire_group.ensures.ends c.requires.group in
+    let e = gone g.N.Name.facts.start g.M.Mapper.span g.M.Mapper.runs g.M.Mapper.refused c.args.meta c.args.group.now c.self.view_is c.leave_any_ring.ensures.only c.leave_any_ring.ensures.working c.leave_any_ring.ensures.whole c.leave_any_ring.ensures.left c.retire_group.ensures.ends c.requires.group in
     run_fewer e c.if-group-gt0.true (g.met.M.Mapper.laid e.mid.mapper) c.drop_run.new.seat c.drop_run.ensures.view
 
 pub returns-then-group-gt0-clause-idle : goal.returns-then-group-gt0-clause-idle
 returns-then-group-gt0-clause-idle g c =
-    let e = gone g.N.Name.start g.M.Mapper.span g.M.Mapper.runs g.M.Mapper.refused c.args.meta c.args.group.now c.self.view_is c.leave_any_ring.ensures.only c.leave_any_ring.ensures.working c.leave_any_ring.ensures.whole c.leave_any_ring.ensures.left c.retire_group.ensures.ends c.requires.group in
+    let e = gone g.N.Name.facts.start g.M.Mapper.span g.M.Mapper.runs g.M.Mapper.refused c.args.meta c.args.group.now c.self.view_is c.leave_any_ring.ensures.only c.leave_any_ring.ensures.working c.leave_any_ring.ensures.whole c.leave_any_ring.ensures.left c.retire_group.ensures.ends c.requires.group in
     run_held e c.if-group-gt0.true (g.met.M.Mapper.laid e.mid.mapper) c.drop_run.new.seat c.drop_run.ensures.view
 
 pub returns-then-group-gt0-clause-unmapped : goal.returns-then-group-gt0-clause-unmapped
 returns-then-group-gt0-clause-unmapped g c =
-    let e = gone g.N.Name.start g.M.Mapper.span g.M.Mapper.runs g.M.Mapper.refused c.args.meta c.args.group.now c.self.view_is c.leave_any_ring.ensures.only c.leave_any_ring.ensures.working c.leave_any_ring.ensures.whole c.leave_any_ring.ensures.left c.retire_group.ensures.ends c.requires.group in
+    let e = gone g.N.Name.facts.start g.M.Mapper.span g.M.Mapper.runs g.M.Mapper.refused c.args.meta c.args.group.now c.self.view_is c.leave_any_ring.ensures.only c.leave_any_ring.ensures.working c.leave_any_ring.ensures.whole c.leave_any_ring.ensures.left c.retire_group.ensures.ends c.requires.group in
     run_unmapped e c.if-group-gt0.true (g.met.M.Mapper.laid e.mid.mapper) c.drop_run.new.seat c.drop_run.ensures.view c.unmap.new.self c.unmap.ensures.unmapped
 
 pub of-parent-requires-clause-set : goal.of-parent-requires-clause-set
 of-parent-requires-clause-set g c =
-    let e = gone g.N.Name.start g.M.Mapper.span g.M.Mapper.runs g.M.Mapper.refused c.args.meta c.args.group.now c.self.view_is c.leave_any_ring.ensures.only c.leave_any_ring.ensures.working c.leave_any_ring.ensures.whole c.leave_any_ring.ensures.left c.retire_group.ensures.ends c.requires.group in
+    let e = gone g.N.Name.facts.start g.M.Mapper.span g.M.Mapper.runs g.M.Mapper.refused c.args.meta c.args.group.now c.self.view_is c.leave_any_ring.ensures.only c.leave_any_ring.ensures.working c.leave_any_ring.ensures.whole c.leave_any_ring.ensures.left c.retire_group.ensures.ends c.requires.group in
     has_parent e (omega (arith, c.if-group-gt0.false))
 
 pub clear_head-requires-clause-whole : goal.clear_head-requires-clause-whole
 clear_head-requires-clause-whole g c =
-    let e = gone g.N.Name.start g.M.Mapper.span g.M.Mapper.runs g.M.Mapper.refused c.args.meta c.args.group.now c.self.view_is c.leave_any_ring.ensures.only c.leave_any_ring.ensures.working c.leave_any_ring.ensures.whole c.leave_any_ring.ensures.left c.retire_group.ensures.ends c.requires.group in
+    let e = gone g.N.Name.facts.start g.M.Mapper.span g.M.Mapper.runs g.M.Mapper.refused c.args.meta c.args.group.now c.self.view_is c.leave_any_ring.ensures.only c.leave_any_ring.ensures.working c.leave_any_ring.ensures.whole c.leave_any_ring.ensures.left c.retire_group.ensures.ends c.requires.group in
     subst (λ b. b % 16 ≡ 0) e.is.base (e.works.stands.groups.each e.whole.group e.whole.there).whole
 
 pub clear_head-requires-clause-inside : goal.clear_head-requires-clause-inside
 clear_head-requires-clause-inside g c =
-    let e = gone g.N.Name.start g.M.Mapper.span g.M.Mapper.runs g.M.Mapper.refused c.args.meta c.args.group.now c.self.view_is c.leave_any_ring.ensures.only c.leave_any_ring.ensures.working c.leave_any_ring.ensures.whole c.leave_any_ring.ensures.left c.retire_group.ensures.ends c.requires.group in
+    let e = gone g.N.Name.facts.start g.M.Mapper.span g.M.Mapper.runs g.M.Mapper.refused c.args.meta c.args.group.now c.self.view_is c.leave_any_ring.ensures.only c.leave_any_ring.ensures.working c.leave_any_ring.ensures.whole c.leave_any_ring.ensures.left c.retire_group.ensures.ends c.requires.group in
     let is = e.works.stands.groups.each e.whole.group e.whole.there in
     omega (arith, is.inside, e.is.base)
 
 pub clear_head-requires-clause-slot : goal.clear_head-requires-clause-slot
 clear_head-requires-clause-slot g c =
-    let e = gone g.N.Name.start g.M.Mapper.span g.M.Mapper.runs g.M.Mapper.refused c.args.meta c.args.group.now c.self.view_is c.leave_any_ring.ensures.only c.leave_any_ring.ensures.working c.leave_any_ring.ensures.whole c.leave_any_ring.ensures.left c.retire_group.ensures.ends c.requires.group in
+    let e = gone g.N.Name.facts.start g.M.Mapper.span g.M.Mapper.runs g.M.Mapper.refused c.args.meta c.args.group.now c.self.view_is c.leave_any_ring.ensures.only c.leave_any_ring.ensures.working c.leave_any_ring.ensures.whole c.leave_any_ring.ensures.left c.retire_group.ensures.ends c.requires.group in
     slot_head e (omega (arith, c.if-group-gt0.false)) c.of-parent.result.0 c.of-parent.result.1 c.of-parent.ensures
 
 pub returns-clause-working : goal.returns-clause-working
 returns-clause-working g c =
-    let e = gone g.N.Name.start g.M.Mapper.span g.M.Mapper.runs g.M.Mapper.refused c.args.meta c.args.group.now c.self.view_is c.leave_any_ring.ensures.only c.leave_any_ring.ensures.working c.leave_any_ring.ensures.whole c.leave_any_ring.ensures.left c.retire_group.ensures.ends c.requires.group in
+    let e = gone g.N.Name.facts.start g.M.Mapper.span g.M.Mapper.runs g.M.Mapper.refused c.args.meta c.args.group.now c.self.view_is c.leave_any_ring.ensures.only c.leave_any_ring.ensures.working c.leave_any_ring.ensures.whole c.leave_any_ring.ensures.left c.retire_group.ensures.ends c.requires.group in
     slot_state e (omega (arith, c.if-group-gt0.false)) c.of-parent.result.0 c.of-parent.result.1 c.of-parent.ensures c.clear_head.new.seat c.clear_head.ensures.view
 
 pub returns-clause-on : goal.returns-clause-on
 returns-clause-on g c =
-    let e = gone g.N.Name.start g.M.Mapper.span g.M.Mapper.runs g.M.Mapper.refused c.args.meta c.args.group.now c.self.view_is c.leave_any_ring.ensures.only c.leave_any_ring.ensures.working c.leave_any_ring.ensures.whole c.leave_any_ring.ensures.left c.retire_group.ensures.ends c.requires.group in
+    let e = gone g.N.Name.facts.start g.M.Mapper.span g.M.Mapper.runs g.M.Mapper.refused c.args.meta c.args.group.now c.self.view_is c.leave_any_ring.ensures.only c.leave_any_ring.ensures.working c.leave_any_ring.ensures.whole c.leave_any_ring.ensures.left c.retire_group.ensures.ends c.requires.group in
     slot_on e (omega (arith, c.if-group-gt0.false)) c.of-parent.result.0 c.of-parent.result.1 c.of-parent.ensures c.clear_head.new.seat c.clear_head.ensures.view
 
 pub returns-clause-hand : goal.returns-clause-hand
 returns-clause-hand g c =
-    let e = gone g.N.Name.start g.M.Mapper.span g.M.Mapper.runs g.M.Mapper.refused c.args.meta c.args.group.now c.self.view_is c.leave_any_ring.ensures.only c.leave_any_ring.ensures.working c.leave_any_ring.ensures.whole c.leave_any_ring.ensures.left c.retire_group.ensures.ends c.requires.group in
+    let e = gone g.N.Name.facts.start g.M.Mapper.span g.M.Mapper.runs g.M.Mapper.refused c.args.meta c.args.group.now c.self.view_is c.leave_any_ring.ensures.only c.leave_any_ring.ensures.working c.leave_any_ring.ensures.whole c.leave_any_ring.ensures.left c.retire_group.ensures.ends c.requires.group in
     slot_in_hand e (omega (arith, c.if-group-gt0.false)) c.of-parent.result.0 c.of-parent.result.1 c.of-parent.ensures c.clear_head.new.seat c.clear_head.ensures.view (g.met.M.Mapper.laid e.mid.mapper) (g.met.M.Mapper.bounded e.mid.mapper)
 
 pub returns-clause-fewer : goal.returns-clause-fewer
 returns-clause-fewer g c =
-    let e = gone g.N.Name.start g.M.Mapper.span g.M.Mapper.runs g.M.Mapper.refused c.args.meta c.args.group.now c.self.view_is c.leave_any_ring.ensures.only c.leave_any_ring.ensures.working c.leave_any_ring.ensures.whole c.leave_any_ring.ensures.left c.retire_group.ensures.ends c.requires.group in
+    let e = gone g.N.Name.facts.start g.M.Mapper.span g.M.Mapper.runs g.M.Mapper.refused c.args.meta c.args.group.now c.self.view_is c.leave_any_ring.ensures.only c.leave_any_ring.ensures.working c.leave_any_ring.ensures.whole c.leave_any_ring.ensures.left c.retire_group.ensures.ends c.requires.group in
     slot_fewer e (omega (arith, c.if-group-gt0.false)) c.of-parent.result.0 c.of-parent.result.1 c.of-parent.ensures c.clear_head.new.seat c.clear_head.ensures.view
 
 pub returns-clause-slot : goal.returns-clause-slot
 returns-clause-slot g c =
-    let e = gone g.N.Name.start g.M.Mapper.span g.M.Mapper.runs g.M.Mapper.refused c.args.meta c.args.group.now c.self.view_is c.leave_any_ring.ensures.only c.leave_any_ring.ensures.working c.leave_any_ring.ensures.whole c.leave_any_ring.ensures.left c.retire_group.ensures.ends c.requires.group in
+    let e = gone g.N.Name.facts.start g.M.Mapper.span g.M.Mapper.runs g.M.Mapper.refused c.args.meta c.args.group.now c.self.view_is c.leave_any_ring.ensures.only c.leave_any_ring.ensures.working c.leave_any_ring.ensures.whole c.leave_any_ring.ensures.left c.retire_group.ensures.ends c.requires.group in
     slot_returned e (omega (arith, c.if-group-gt0.false)) c.of-parent.result.0 c.of-parent.result.1 c.of-parent.ensures c.clear_head.new.seat c.clear_head.ensures.view
 
 pub returns-clause-above : goal.returns-clause-above
 returns-clause-above g c =
-    let e = gone g.N.Name.start g.M.Mapper.span g.M.Mapper.runs g.M.Mapper.refused c.args.meta c.args.group.now c.self.view_is c.leave_any_ring.ensures.only c.leave_any_ring.ensures.working c.leave_any_ring.ensures.whole c.leave_any_ring.ensures.left c.retire_group.ensures.ends c.requires.group in
+    let e = gone g.N.Name.facts.start g.M.Mapper.span g.M.Mapper.runs g.M.Mapper.refused c.args.meta c.args.group.now c.self.view_is c.leave_any_ring.ensures.only c.leave_any_ring.ensures.working c.leave_any_ring.ensures.whole c.leave_any_ring.ensures.left c.retire_group.ensures.ends c.requires.group in
     slot_above e (omega (arith, c.if-group-gt0.false)) c.of-parent.result.0 c.of-parent.result.1 c.of-parent.ensures c.clear_head.new.seat c.clear_head.ensures.view
 
 pub returns-then-group-gt0-clause-counter : goal.returns-then-group-gt0-clause-counter

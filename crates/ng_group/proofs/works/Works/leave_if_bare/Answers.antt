@@ -11,7 +11,7 @@ use Rattle.ng_group.proofs.works.Works.leave_if_bare.Goals as goal
 
 pub note_ring-requires-clause-live : goal.note_ring-requires-clause-live
 note_ring-requires-clause-live g c =
-    live_at g.N.Name.start g.M.Mapper.span g.M.Mapper.runs g.M.Mapper.refused _ _ c.args.class c.args.first c.self.view_is c.requires.working c.requires.class (Contains-first (ring_of c.args.self.now.rings c.args.class) c.args.first (sym c.requires.first))
+    live_at g.N.Name.facts.start g.M.Mapper.span g.M.Mapper.runs g.M.Mapper.refused _ _ c.args.class c.args.first c.self.view_is c.requires.working c.requires.class (Contains-first (ring_of c.args.self.now.rings c.args.class) c.args.first (sym c.requires.first))
 
 pub next-requires : goal.next-requires
 next-requires g c = record {
@@ -20,11 +20,11 @@ next-requires g c = record {
 
 pub returns-then-note_ring-ne0-clause-working : goal.returns-then-note_ring-ne0-clause-working
 returns-then-note_ring-ne0-clause-working g c =
-    (first_stays g.N.Name.start g.M.Mapper.span g.M.Mapper.runs g.M.Mapper.refused _ _ c.args.class c.args.first c.note_ring.result c.note_ring.new.seat c.self.view_is c.requires.bare c.if-note_ring-ne0.true c.note_ring.ensures c.requires.working).working
+    (first_stays g.N.Name.facts.start g.M.Mapper.span g.M.Mapper.runs g.M.Mapper.refused _ _ c.args.class c.args.first c.note_ring.result c.note_ring.new.seat c.self.view_is c.requires.bare c.if-note_ring-ne0.true c.note_ring.ensures c.requires.working).working
 
 pub returns-then-note_ring-ne0-clause-walk : goal.returns-then-note_ring-ne0-clause-walk
 returns-then-note_ring-ne0-clause-walk g c =
-    (first_stays g.N.Name.start g.M.Mapper.span g.M.Mapper.runs g.M.Mapper.refused _ _ c.args.class c.args.first c.note_ring.result c.note_ring.new.seat c.self.view_is c.requires.bare c.if-note_ring-ne0.true c.note_ring.ensures c.requires.working).walk
+    (first_stays g.N.Name.facts.start g.M.Mapper.span g.M.Mapper.runs g.M.Mapper.refused _ _ c.args.class c.args.first c.note_ring.result c.note_ring.new.seat c.self.view_is c.requires.bare c.if-note_ring-ne0.true c.note_ring.ensures c.requires.working).walk
 
 pub returns-then-note_ring-ne0-clause-start : goal.returns-then-note_ring-ne0-clause-start
 returns-then-note_ring-ne0-clause-start g c =
@@ -46,11 +46,11 @@ table g c = record {
 
 pub returns-clause-working : goal.returns-clause-working
 returns-clause-working g c =
-    (first_leaves g.N.Name.start g.M.Mapper.span g.M.Mapper.runs g.M.Mapper.refused _ _ c.args.class c.args.first c.note_ring.result c.note_ring.new.seat c.dequeue.new.self c.self.view_is (table g c) c.requires.class c.requires.first c.requires.bare c.if-note_ring-ne0.false c.note_ring.ensures c.dequeue.ensures.removed c.requires.working).working
+    (first_leaves g.N.Name.facts.start g.M.Mapper.span g.M.Mapper.runs g.M.Mapper.refused _ _ c.args.class c.args.first c.note_ring.result c.note_ring.new.seat c.dequeue.new.self c.self.view_is (table g c) c.requires.class c.requires.first c.requires.bare c.if-note_ring-ne0.false c.note_ring.ensures c.dequeue.ensures.removed c.requires.working).working
 
 pub returns-clause-walk : goal.returns-clause-walk
 returns-clause-walk g c =
-    (first_leaves g.N.Name.start g.M.Mapper.span g.M.Mapper.runs g.M.Mapper.refused _ _ c.args.class c.args.first c.note_ring.result c.note_ring.new.seat c.dequeue.new.self c.self.view_is (table g c) c.requires.class c.requires.first c.requires.bare c.if-note_ring-ne0.false c.note_ring.ensures c.dequeue.ensures.removed c.requires.working).walk
+    (first_leaves g.N.Name.facts.start g.M.Mapper.span g.M.Mapper.runs g.M.Mapper.refused _ _ c.args.class c.args.first c.note_ring.result c.note_ring.new.seat c.dequeue.new.self c.self.view_is (table g c) c.requires.class c.requires.first c.requires.bare c.if-note_ring-ne0.false c.note_ring.ensures c.dequeue.ensures.removed c.requires.working).walk
 
 pub returns-clause-start : goal.returns-clause-start
 returns-clause-start g c = some_first c.first.result (ring_of c.dequeue.new.self c.args.class) c.first.ensures.first

@@ -13,15 +13,15 @@ use Rattle.ng_group.proofs.works.Works.leave_ring.Goals as goal
 
 pub stock_freed-requires-clause-place : goal.stock_freed-requires-clause-place
 stock_freed-requires-clause-place g c =
-    let works = subst (λ (s : State g.row.M.Denot g.row.P.Denot). Working g.N.Name.start g.M.Mapper.span g.M.Mapper.runs g.M.Mapper.refused s) (sym c.self-2.view_is) c.unlist.ensures.working in
+    let works = subst (λ (s : State g.row.M.Denot g.row.P.Denot). Working g.N.Name.facts.start g.M.Mapper.span g.M.Mapper.runs g.M.Mapper.refused s) (sym c.self-2.view_is) c.unlist.ensures.working in
     let first : slice_get (ring_of c.self-2.inside.rings c.args.class) 0 ≡ Some c.in-Some.next = sym c.first-then-was_first.ensures.first ∙ c.in-Some.is in
-    (ring_group g.N.Name.start.pages c.self-2.inside.seat c.self-2.inside.rings c.args.class c.in-Some.next works.stands.groups works.stands.ringed c.requires.class (contains_get (ring_of c.self-2.inside.rings c.args.class) c.in-Some.next first)).1
+    (ring_group g.N.Name.facts.start.pages c.self-2.inside.seat c.self-2.inside.rings c.args.class c.in-Some.next works.stands.groups works.stands.ringed c.requires.class (contains_get (ring_of c.self-2.inside.rings c.args.class) c.in-Some.next first)).1
 
 pub stock_freed-requires-clause-live : goal.stock_freed-requires-clause-live
 stock_freed-requires-clause-live g c =
-    let works = subst (λ (s : State g.row.M.Denot g.row.P.Denot). Working g.N.Name.start g.M.Mapper.span g.M.Mapper.runs g.M.Mapper.refused s) (sym c.self-2.view_is) c.unlist.ensures.working in
+    let works = subst (λ (s : State g.row.M.Denot g.row.P.Denot). Working g.N.Name.facts.start g.M.Mapper.span g.M.Mapper.runs g.M.Mapper.refused s) (sym c.self-2.view_is) c.unlist.ensures.working in
     let first : slice_get (ring_of c.self-2.inside.rings c.args.class) 0 ≡ Some c.in-Some.next = sym c.first-then-was_first.ensures.first ∙ c.in-Some.is in
-    (ring_group g.N.Name.start.pages c.self-2.inside.seat c.self-2.inside.rings c.args.class c.in-Some.next works.stands.groups works.stands.ringed c.requires.class (contains_get (ring_of c.self-2.inside.rings c.args.class) c.in-Some.next first)).0
+    (ring_group g.N.Name.facts.start.pages c.self-2.inside.seat c.self-2.inside.rings c.args.class c.in-Some.next works.stands.groups works.stands.ringed c.requires.class (contains_get (ring_of c.self-2.inside.rings c.args.class) c.in-Some.next first)).0
 
 pub stock_freed-requires-clause-bare : goal.stock_freed-requires-clause-bare
 stock_freed-requires-clause-bare g c =
@@ -36,15 +36,15 @@ stock_freed-requires-clause-bare g c =
 
 pub stock_freed-requires-clause-inside : goal.stock_freed-requires-clause-inside
 stock_freed-requires-clause-inside g c =
-    let works = subst (λ (s : State g.row.M.Denot g.row.P.Denot). Working g.N.Name.start g.M.Mapper.span g.M.Mapper.runs g.M.Mapper.refused s) (sym c.self-2.view_is) c.unlist.ensures.working in
-    in_space g.N.Name.start.pages c.self-2.inside.seat.desk.groups works.stands.groups
+    let works = subst (λ (s : State g.row.M.Denot g.row.P.Denot). Working g.N.Name.facts.start g.M.Mapper.span g.M.Mapper.runs g.M.Mapper.refused s) (sym c.self-2.view_is) c.unlist.ensures.working in
+    in_space g.N.Name.facts.start.pages c.self-2.inside.seat.desk.groups works.stands.groups
 
 pub returns-in-Some-clause-working : goal.returns-in-Some-clause-working
 returns-in-Some-clause-working g c =
-    let works = subst (λ (s : State g.row.M.Denot g.row.P.Denot). Working g.N.Name.start g.M.Mapper.span g.M.Mapper.runs g.M.Mapper.refused s) (sym c.self-2.view_is) c.unlist.ensures.working in
+    let works = subst (λ (s : State g.row.M.Denot g.row.P.Denot). Working g.N.Name.facts.start g.M.Mapper.span g.M.Mapper.runs g.M.Mapper.refused s) (sym c.self-2.view_is) c.unlist.ensures.working in
     let table : IsTable c.self-2.inside.rings = record { classes = c.stand_once.ensures.classes; places = c.stand_once.ensures.places; once = c.stand_once.ensures.once; apart = c.stand_once.ensures.apart } in
     let first : slice_get (ring_of c.self-2.inside.rings c.args.class) 0 ≡ Some c.in-Some.next = sym c.first-then-was_first.ensures.first ∙ c.in-Some.is in
-    stocked_works c.self-2.inside.seat c.stock_freed.new.seat c.in-Some.next c.stock_freed.ensures g.N.Name.start (g.M.Mapper.span c.self-2.inside.mapper) (g.M.Mapper.runs c.self-2.inside.mapper) (g.M.Mapper.refused c.self-2.inside.mapper)
+    stocked_works c.self-2.inside.seat c.stock_freed.new.seat c.in-Some.next c.stock_freed.ensures g.N.Name.facts.start (g.M.Mapper.span c.self-2.inside.mapper) (g.M.Mapper.runs c.self-2.inside.mapper) (g.M.Mapper.refused c.self-2.inside.mapper)
     (record { seat = c.self-2.inside.seat; rings = c.self-2.inside.rings; stock = c.self-2.inside.stock; parents = c.self-2.inside.parents; usage = c.self-2.inside.usage })
     c.args.class refl works table first
 

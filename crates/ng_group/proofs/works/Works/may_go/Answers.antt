@@ -6,16 +6,16 @@ use Rattle.ng_group.proofs.works.Works.may_go.Goals.{then-group-eq-LONE, else-gr
 use Rattle.ng_group.proofs.works.Works.may_go.Goals as goal
 
 pub stride-requires-clause-class : goal.stride-requires-clause-class
-stride-requires-clause-class g c = found_class g.N.Name.start _ _ _ (ledger_of c.args.self.now) c.requires.working c.args.meta c.args.group.now c.requires.live c.requires.group c.if-group-eq-LONE.false
+stride-requires-clause-class g c = found_class g.N.Name.facts.start _ _ _ (ledger_of c.args.self.now) c.requires.working c.args.meta c.args.group.now c.requires.live c.requires.group c.if-group-eq-LONE.false
 
 pub stride-requires-clause-last : goal.stride-requires-clause-last
-stride-requires-clause-last g c = found_few g.N.Name.start _ _ _ (ledger_of c.args.self.now) c.requires.working c.args.meta c.args.group.now c.requires.live c.requires.group
+stride-requires-clause-last g c = found_few g.N.Name.facts.start _ _ _ (ledger_of c.args.self.now) c.requires.working c.args.meta c.args.group.now c.requires.live c.requires.group
 
 pub stride-requires-clause-maplen : goal.stride-requires-clause-maplen
-stride-requires-clause-maplen g c = found_paged g.N.Name.start _ _ _ (ledger_of c.args.self.now) c.requires.working c.args.meta c.args.group.now c.requires.live c.requires.group
+stride-requires-clause-maplen g c = found_paged g.N.Name.facts.start _ _ _ (ledger_of c.args.self.now) c.requires.working c.args.meta c.args.group.now c.requires.live c.requires.group
 
 pub units-requires : goal.units-requires
-units-requires g c = found_small g.N.Name.start _ _ _ (ledger_of c.args.self.now) c.requires.working c.args.meta c.args.group.now c.requires.live c.requires.group c.if-group-eq-LONE.false
+units-requires g c = found_small g.N.Name.facts.start _ _ _ (ledger_of c.args.self.now) c.requires.working c.args.meta c.args.group.now c.requires.live c.requires.group c.if-group-eq-LONE.false
 
 pub spare-requires-clause-class : goal.spare-requires-clause-class
 spare-requires-clause-class g c =
@@ -23,6 +23,6 @@ spare-requires-clause-class g c =
       | then-stride-units w ↦ absurd (let q = sym w.if-stride-units.true ∙ (sym w.value-is ∙ c.if-group-eq0.false) in cc)
       | else-stride-units w ↦ elim c.if-group-eq-LONE.branch [
         | then-group-eq-LONE u ↦ absurd (let q = sym (eq-eqb c.args.group.now.class 63 u.if-group-eq-LONE.true) ∙ (sym u.value-is ∙ w.if-stride-units.false) in cc)
-        | else-group-eq-LONE u ↦ found_small g.N.Name.start _ _ _ (ledger_of c.args.self.now) c.requires.working c.args.meta c.args.group.now c.requires.live c.requires.group u.if-group-eq-LONE.false
+        | else-group-eq-LONE u ↦ found_small g.N.Name.facts.start _ _ _ (ledger_of c.args.self.now) c.requires.working c.args.meta c.args.group.now c.requires.live c.requires.group u.if-group-eq-LONE.false
       ]
     ]

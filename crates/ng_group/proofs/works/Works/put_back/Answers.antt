@@ -18,7 +18,7 @@ put_slot-requires-clause-slot g c =
     bare_returned c.args.self.now.seat c.self.inside.seat.held c.args.meta c.args.index c.requires.slot few (ap (λ (s : State g.row.M.Denot g.row.P.Denot). s.seat.held) c.self.view_is ∙ c.enlist.ensures.held)
 
 pub returns-clause-working : goal.returns-clause-working
-returns-clause-working g c = put_works c.args.self.now c.enlist.new.self _ c.self.view_is c.args.class c.enlist.ensures.only c.args.meta c.args.index c.put_slot.new.seat g.N.Name.start g.M.Mapper.span g.M.Mapper.runs g.M.Mapper.refused c.enlist.ensures.working c.put_slot.ensures
+returns-clause-working g c = put_works c.args.self.now c.enlist.new.self _ c.self.view_is c.args.class c.enlist.ensures.only c.args.meta c.args.index c.put_slot.new.seat g.N.Name.facts.start g.M.Mapper.span g.M.Mapper.runs g.M.Mapper.refused c.enlist.ensures.working c.put_slot.ensures
 
 pub returns-clause-only : goal.returns-clause-only
 returns-clause-only g c = put_only c.args.self.now c.enlist.new.self _ c.self.view_is c.args.class c.enlist.ensures.only c.args.meta c.args.index c.put_slot.new.seat c.put_slot.ensures

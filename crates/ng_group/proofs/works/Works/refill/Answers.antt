@@ -19,7 +19,7 @@ returns-in_err-start-clause-none g c =
 pub choose-requires-clause-live : goal.choose-requires-clause-live
 choose-requires-clause-live g c =
     subst (λ (s : State g.row.M.Denot g.row.P.Denot). RingLives s.seat.desk.groups (ring_of s.rings c.args.class) c.args.class) (sym c.self.view_is)
-    (ring_lives g.N.Name.start g.M.Mapper.span g.M.Mapper.runs g.M.Mapper.refused c.leave_if_bare.new.self c.args.class c.leave_if_bare.ensures.working c.requires.class)
+    (ring_lives g.N.Name.facts.start g.M.Mapper.span g.M.Mapper.runs g.M.Mapper.refused c.leave_if_bare.new.self c.args.class c.leave_if_bare.ensures.working c.requires.class)
 
 pub choose-requires-clause-bare : goal.choose-requires-clause-bare
 choose-requires-clause-bare g c =
@@ -27,16 +27,16 @@ choose-requires-clause-bare g c =
 
 pub choose-requires-clause-inside : goal.choose-requires-clause-inside
 choose-requires-clause-inside g c =
-    inside_at g.N.Name.start g.M.Mapper.span g.M.Mapper.runs g.M.Mapper.refused _ _ c.self.view_is c.leave_if_bare.ensures.working
+    inside_at g.N.Name.facts.start g.M.Mapper.span g.M.Mapper.runs g.M.Mapper.refused _ _ c.self.view_is c.leave_if_bare.ensures.working
 
 pub returns-in_err-choice-clause-working : goal.returns-in_err-choice-clause-working
 returns-in_err-choice-clause-working g c =
-    (passes g.N.Name.start g.M.Mapper.span g.M.Mapper.runs g.M.Mapper.refused _ _ c.args.class c.choose.new.seat c.self.view_is (notes_grow c.self.inside.seat c.choose.new.seat c.choose.ensures.notes) c.leave_if_bare.ensures.working).working
+    (passes g.N.Name.facts.start g.M.Mapper.span g.M.Mapper.runs g.M.Mapper.refused _ _ c.args.class c.choose.new.seat c.self.view_is (notes_grow c.self.inside.seat c.choose.new.seat c.choose.ensures.notes) c.leave_if_bare.ensures.working).working
 
 pub returns-in_err-choice-clause-only : goal.returns-in_err-choice-clause-only
 returns-in_err-choice-clause-only g c =
     only_then c.args.class c.args.self.now c.leave_if_bare.new.self _ c.leave_if_bare.ensures.only
-    (passes g.N.Name.start g.M.Mapper.span g.M.Mapper.runs g.M.Mapper.refused _ _ c.args.class c.choose.new.seat c.self.view_is (notes_grow c.self.inside.seat c.choose.new.seat c.choose.ensures.notes) c.leave_if_bare.ensures.working).only
+    (passes g.N.Name.facts.start g.M.Mapper.span g.M.Mapper.runs g.M.Mapper.refused _ _ c.args.class c.choose.new.seat c.self.view_is (notes_grow c.self.inside.seat c.choose.new.seat c.choose.ensures.notes) c.leave_if_bare.ensures.working).only
 
 pub returns-in_err-choice-clause-none : goal.returns-in_err-choice-clause-none
 returns-in_err-choice-clause-none g c =
@@ -45,7 +45,7 @@ returns-in_err-choice-clause-none g c =
 
 pub serve-requires-clause-working : goal.serve-requires-clause-working
 serve-requires-clause-working g c =
-    (passes g.N.Name.start g.M.Mapper.span g.M.Mapper.runs g.M.Mapper.refused _ _ c.args.class c.choose.new.seat c.self.view_is (notes_grow c.self.inside.seat c.choose.new.seat c.choose.ensures.notes) c.leave_if_bare.ensures.working).working
+    (passes g.N.Name.facts.start g.M.Mapper.span g.M.Mapper.runs g.M.Mapper.refused _ _ c.args.class c.choose.new.seat c.self.view_is (notes_grow c.self.inside.seat c.choose.new.seat c.choose.ensures.notes) c.leave_if_bare.ensures.working).working
 
 pub serve-requires-clause-bare : goal.serve-requires-clause-bare
 serve-requires-clause-bare g c =
@@ -56,5 +56,5 @@ pub returns-clause-only : goal.returns-clause-only
 returns-clause-only g c =
     only_then c.args.class c.args.self.now c.leave_if_bare.new.self c.serve.new.self c.leave_if_bare.ensures.only
     (only_then c.args.class c.leave_if_bare.new.self _ c.serve.new.self
-    (passes g.N.Name.start g.M.Mapper.span g.M.Mapper.runs g.M.Mapper.refused _ _ c.args.class c.choose.new.seat c.self.view_is (notes_grow c.self.inside.seat c.choose.new.seat c.choose.ensures.notes) c.leave_if_bare.ensures.working).only
+    (passes g.N.Name.facts.start g.M.Mapper.span g.M.Mapper.runs g.M.Mapper.refused _ _ c.args.class c.choose.new.seat c.self.view_is (notes_grow c.self.inside.seat c.choose.new.seat c.choose.ensures.notes) c.leave_if_bare.ensures.working).only
     c.serve.ensures.only)

@@ -18,7 +18,7 @@ pub clear_meta-requires-clause-idle : goal.clear_meta-requires-clause-idle
 clear_meta-requires-clause-idle g c =
     let seat : c.self.inside.seat ≡ c.args.self.now.seat = ap (λ (s : State g.row.M.Denot g.row.P.Denot). s.seat) c.self.view_is ∙ ap (λ (s : State g.row.M.Denot g.row.P.Denot). s.seat) c.uncount.ensures.only in
     let mapper = c.args.self.now.mapper in
-    idle_meta g.N.Name.start (g.M.Mapper.span c.args.self.now.mapper) (g.M.Mapper.runs c.args.self.now.mapper) (g.M.Mapper.refused c.args.self.now.mapper) (ledger_of c.args.self.now) c.args.meta c.retire.new.seat c.requires.working c.requires.whole
+    idle_meta g.N.Name.facts.start (g.M.Mapper.span c.args.self.now.mapper) (g.M.Mapper.runs c.args.self.now.mapper) (g.M.Mapper.refused c.args.self.now.mapper) (ledger_of c.args.self.now) c.args.meta c.retire.new.seat c.requires.working c.requires.whole
     (subst (λ (v : View). Retires v c.args.meta c.retire.new.seat) seat c.retire.ensures)
 
 pub returns : goal.returns

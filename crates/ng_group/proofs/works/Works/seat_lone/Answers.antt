@@ -8,31 +8,31 @@ use Rattle.ng_group.proofs.LoneSeatLemmas.{failed_hand, failed_on, failed_workin
 use Rattle.ng_group.proofs.works.Works.seat_lone.Goals as goal
 
 pub find_meta-requires-clause-stock : goal.find_meta-requires-clause-stock
-find_meta-requires-clause-stock g c = stock_at g.N.Name.start g.M.Mapper.span g.M.Mapper.runs g.M.Mapper.refused c.self.view_is c.requires.working
+find_meta-requires-clause-stock g c = stock_at g.N.Name.facts.start g.M.Mapper.span g.M.Mapper.runs g.M.Mapper.refused c.self.view_is c.requires.working
 
 pub build_lone-requires-clause-working : goal.build_lone-requires-clause-working
 build_lone-requires-clause-working g c =
-    found_working g.N.Name.start g.M.Mapper.span g.M.Mapper.runs g.M.Mapper.refused c.find_meta.new.mapper c.self.view_is c.in_ok-meta.ensures.ok c.requires.working c.in_ok-meta.ensures.mapper c.in_ok-meta.ensures.stock
+    found_working g.N.Name.facts.start g.M.Mapper.span g.M.Mapper.runs g.M.Mapper.refused c.find_meta.new.mapper c.self.view_is c.in_ok-meta.ensures.ok c.requires.working c.in_ok-meta.ensures.mapper c.in_ok-meta.ensures.stock
 
 pub returns-in-Ok-clause-hand : goal.returns-in-Ok-clause-hand
 returns-in-Ok-clause-hand g c =
-    found_over g.N.Name.start g.M.Mapper.span g.M.Mapper.runs g.M.Mapper.refused c.find_meta.new.mapper c.self.view_is c.in_ok-meta.ensures.ok (ledger_of c.build_lone.new.self) c.in-Ok.ensures.hand
+    found_over g.N.Name.facts.start g.M.Mapper.span g.M.Mapper.runs g.M.Mapper.refused c.find_meta.new.mapper c.self.view_is c.in_ok-meta.ensures.ok (ledger_of c.build_lone.new.self) c.in-Ok.ensures.hand
 
 pub returns-in-Err-clause-working : goal.returns-in-Err-clause-working
 returns-in-Err-clause-working g c =
-    failed_working g.N.Name.start g.M.Mapper.span g.M.Mapper.runs g.M.Mapper.refused c.find_meta.new.mapper c.self.view_is c.in_ok-meta.ensures.ok c.self-2.view_is c.in-Err.ensures.kept c.put.ensures.appended c.in-Err.ensures.working
+    failed_working g.N.Name.facts.start g.M.Mapper.span g.M.Mapper.runs g.M.Mapper.refused c.find_meta.new.mapper c.self.view_is c.in_ok-meta.ensures.ok c.self-2.view_is c.in-Err.ensures.kept c.put.ensures.appended c.in-Err.ensures.working
 
 pub returns-in-Err-clause-on : goal.returns-in-Err-clause-on
 returns-in-Err-clause-on g c =
-    failed_on g.N.Name.start g.M.Mapper.span g.M.Mapper.runs g.M.Mapper.refused c.find_meta.new.mapper c.self.view_is c.in_ok-meta.ensures.ok c.self-2.view_is c.in-Err.ensures.kept c.put.ensures.appended c.in-Err.ensures.on
+    failed_on g.N.Name.facts.start g.M.Mapper.span g.M.Mapper.runs g.M.Mapper.refused c.find_meta.new.mapper c.self.view_is c.in_ok-meta.ensures.ok c.self-2.view_is c.in-Err.ensures.kept c.put.ensures.appended c.in-Err.ensures.on
 
 pub returns-in-Err-clause-hand : goal.returns-in-Err-clause-hand
 returns-in-Err-clause-hand g c =
-    failed_hand g.N.Name.start g.M.Mapper.span g.M.Mapper.runs g.M.Mapper.refused c.find_meta.new.mapper c.self.view_is c.in_ok-meta.ensures.ok c.self-2.view_is c.in-Err.ensures.kept c.put.ensures.appended
+    failed_hand g.N.Name.facts.start g.M.Mapper.span g.M.Mapper.runs g.M.Mapper.refused c.find_meta.new.mapper c.self.view_is c.in_ok-meta.ensures.ok c.self-2.view_is c.in-Err.ensures.kept c.put.ensures.appended
 
 pub returns-in-Ok-clause-builds : goal.returns-in-Ok-clause-builds
 returns-in-Ok-clause-builds g c =
-    lone_builds g.N.Name.start g.M.Mapper.runs _ c.args.self.now c.self.view_is c.in_ok-meta.meta
+    lone_builds g.N.Name.facts.start g.M.Mapper.runs _ c.args.self.now c.self.view_is c.in_ok-meta.meta
     c.find_meta.new.seat c.find_meta.new.stock c.find_meta.new.mapper c.in_ok-meta.ensures.ok
     c.args.bytes
     c.build_lone.new.self
@@ -41,14 +41,14 @@ returns-in-Ok-clause-builds g c =
 -- ---- the block's run was refused
 pub returns-in-Err-clause-cause : goal.returns-in-Err-clause-cause
 returns-in-Err-clause-cause g c =
-    lone_cause g.N.Name.start g.M.Mapper.runs _ c.args.self.now c.self.view_is c.in_ok-meta.meta
+    lone_cause g.N.Name.facts.start g.M.Mapper.runs _ c.args.self.now c.self.view_is c.in_ok-meta.meta
     c.find_meta.new.seat c.find_meta.new.stock c.find_meta.new.mapper c.in_ok-meta.ensures.ok
     c.build_lone.new.self c.self-2.inside.seat c.in-Err.ensures.left (ap (λ (s : State g.row.M.Denot g.row.P.Denot). s.seat) c.self-2.view_is) c.args.bytes _
     (ap (λ (s : State g.row.M.Denot g.row.P.Denot). (g.M.Mapper.refused s.mapper).last) c.self-2.view_is ∙ c.in-Err.ensures.asked)
 
 pub returns-in-Err-clause-leaves : goal.returns-in-Err-clause-leaves
 returns-in-Err-clause-leaves g c =
-    lone_leaves g.N.Name.start g.M.Mapper.runs _ c.args.self.now c.self.view_is c.in_ok-meta.meta
+    lone_leaves g.N.Name.facts.start g.M.Mapper.runs _ c.args.self.now c.self.view_is c.in_ok-meta.meta
     c.find_meta.new.seat c.find_meta.new.stock c.find_meta.new.mapper c.in_ok-meta.ensures.ok
     c.build_lone.new.self _ c.in-Err.ensures.left (ap (λ (s : State g.row.M.Denot g.row.P.Denot). s.seat) c.self-2.view_is)
     c.in-Err.ensures.on

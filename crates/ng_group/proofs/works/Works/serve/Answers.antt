@@ -15,47 +15,47 @@ use Rattle.ng_group.proofs.works.Works.serve.Goals as goal
 
 pub group_of-group-requires-clause-place : goal.group_of-group-requires-clause-place
 group_of-group-requires-clause-place g c =
-    member_place g.N.Name.start g.M.Mapper.span g.M.Mapper.runs g.M.Mapper.refused c.args.self.now c.args.class c.args.choice.meta c.requires.working c.requires.class c.requires.member
+    member_place g.N.Name.facts.start g.M.Mapper.span g.M.Mapper.runs g.M.Mapper.refused c.args.self.now c.args.class c.args.choice.meta c.requires.working c.requires.class c.requires.member
 
 pub group_of-group-requires-clause-live : goal.group_of-group-requires-clause-live
 group_of-group-requires-clause-live g c =
-    live_at g.N.Name.start g.M.Mapper.span g.M.Mapper.runs g.M.Mapper.refused _ _ c.args.class c.args.choice.meta c.self.view_is c.requires.working c.requires.class c.requires.member
+    live_at g.N.Name.facts.start g.M.Mapper.span g.M.Mapper.runs g.M.Mapper.refused _ _ c.args.class c.args.choice.meta c.self.view_is c.requires.working c.requires.class c.requires.member
 
 pub activate-active-requires-clause-group : goal.activate-active-requires-clause-group
 activate-active-requires-clause-group g c =
     group_index c.self.inside.seat c.group_of-group.new.seat c.args.choice.meta c.group_of-group.result
-    (live_at g.N.Name.start g.M.Mapper.span g.M.Mapper.runs g.M.Mapper.refused _ _ c.args.class c.args.choice.meta c.self.view_is c.requires.working c.requires.class c.requires.member)
+    (live_at g.N.Name.facts.start g.M.Mapper.span g.M.Mapper.runs g.M.Mapper.refused _ _ c.args.class c.args.choice.meta c.self.view_is c.requires.working c.requires.class c.requires.member)
     c.group_of-group.ensures.group
     c.group_of-group.ensures.reads
 
 pub activate-active-requires-clause-inside : goal.activate-active-requires-clause-inside
 activate-active-requires-clause-inside g c =
-    inside_then c.self.inside.seat c.group_of-group.new.seat g.N.Name.start.pages c.group_of-group.ensures.reads
-    (inside_at g.N.Name.start g.M.Mapper.span g.M.Mapper.runs g.M.Mapper.refused _ _ c.self.view_is c.requires.working)
+    inside_then c.self.inside.seat c.group_of-group.new.seat g.N.Name.facts.start.pages c.group_of-group.ensures.reads
+    (inside_at g.N.Name.facts.start g.M.Mapper.span g.M.Mapper.runs g.M.Mapper.refused _ _ c.self.view_is c.requires.working)
 
 pub activate-active-requires-clause-class : goal.activate-active-requires-clause-class
 activate-active-requires-clause-class g c =
     described_small c.self.inside.seat c.args.class c.args.choice.meta c.group_of-group.result
-    (class_at g.N.Name.start g.M.Mapper.span g.M.Mapper.runs g.M.Mapper.refused _ _ c.args.class c.args.choice.meta c.self.view_is c.requires.working c.requires.class c.requires.member)
+    (class_at g.N.Name.facts.start g.M.Mapper.span g.M.Mapper.runs g.M.Mapper.refused _ _ c.args.class c.args.choice.meta c.self.view_is c.requires.working c.requires.class c.requires.member)
     c.requires.class
     c.group_of-group.ensures.group
 
 pub activate-active-requires-clause-lowest : goal.activate-active-requires-clause-lowest
 activate-active-requires-clause-lowest g c =
     described_within c.self.inside.seat c.args.class c.args.choice.lowest c.args.choice.meta c.group_of-group.result
-    (class_at g.N.Name.start g.M.Mapper.span g.M.Mapper.runs g.M.Mapper.refused _ _ c.args.class c.args.choice.meta c.self.view_is c.requires.working c.requires.class c.requires.member)
+    (class_at g.N.Name.facts.start g.M.Mapper.span g.M.Mapper.runs g.M.Mapper.refused _ _ c.args.class c.args.choice.meta c.self.view_is c.requires.working c.requires.class c.requires.member)
     (subst (λ (s : State g.row.M.Denot g.row.P.Denot). OfGroup s.seat c.args.choice.meta (λ h. c.args.choice.lowest ≤ h.last)) (sym c.self.view_is) c.requires.choice.within)
     c.group_of-group.ensures.group
 
 pub take_freed-index-requires-clause-place : goal.take_freed-index-requires-clause-place
 take_freed-index-requires-clause-place g c =
-    member_place g.N.Name.start g.M.Mapper.span g.M.Mapper.runs g.M.Mapper.refused c.args.self.now c.args.class c.args.choice.meta c.requires.working c.requires.class c.requires.member
+    member_place g.N.Name.facts.start g.M.Mapper.span g.M.Mapper.runs g.M.Mapper.refused c.args.self.now c.args.class c.args.choice.meta c.requires.working c.requires.class c.requires.member
 
 pub take_freed-index-requires-clause-live : goal.take_freed-index-requires-clause-live
 take_freed-index-requires-clause-live g c =
     lives_then c.self.inside.seat c.activate-active.new.seat c.args.choice.meta
     (reads_then c.self.inside.seat c.group_of-group.new.seat c.activate-active.new.seat c.group_of-group.ensures.reads c.activate-active.ensures.reads)
-    (live_at g.N.Name.start g.M.Mapper.span g.M.Mapper.runs g.M.Mapper.refused _ _ c.args.class c.args.choice.meta c.self.view_is c.requires.working c.requires.class c.requires.member)
+    (live_at g.N.Name.facts.start g.M.Mapper.span g.M.Mapper.runs g.M.Mapper.refused _ _ c.args.class c.args.choice.meta c.self.view_is c.requires.working c.requires.class c.requires.member)
 
 pub take_freed-index-requires-clause-bare : goal.take_freed-index-requires-clause-bare
 take_freed-index-requires-clause-bare g c =
@@ -83,12 +83,12 @@ takes g c = takes_after c.self.inside.seat c.group_of-group.new.seat c.activate-
 
 pub returns-clause-working : goal.returns-clause-working
 returns-clause-working g c =
-    (serves g.N.Name.start g.M.Mapper.span g.M.Mapper.runs g.M.Mapper.refused _ _ c.args.class c.args.bytes c.args.choice.meta c.take_freed-index.result c.take_freed-index.new.seat c.rotate.new.self c.decay.new.self c.self.view_is c.requires.class c.requires.bytes c.requires.member c.requires.bare c.requires.idle c.rotate.ensures.rotated (table g c) (takes g c) c.requires.working).working
+    (serves g.N.Name.facts.start g.M.Mapper.span g.M.Mapper.runs g.M.Mapper.refused _ _ c.args.class c.args.bytes c.args.choice.meta c.take_freed-index.result c.take_freed-index.new.seat c.rotate.new.self c.decay.new.self c.self.view_is c.requires.class c.requires.bytes c.requires.member c.requires.bare c.requires.idle c.rotate.ensures.rotated (table g c) (takes g c) c.requires.working).working
 
 pub returns-clause-only : goal.returns-clause-only
 returns-clause-only g c =
-    (serves g.N.Name.start g.M.Mapper.span g.M.Mapper.runs g.M.Mapper.refused _ _ c.args.class c.args.bytes c.args.choice.meta c.take_freed-index.result c.take_freed-index.new.seat c.rotate.new.self c.decay.new.self c.self.view_is c.requires.class c.requires.bytes c.requires.member c.requires.bare c.requires.idle c.rotate.ensures.rotated (table g c) (takes g c) c.requires.working).only
+    (serves g.N.Name.facts.start g.M.Mapper.span g.M.Mapper.runs g.M.Mapper.refused _ _ c.args.class c.args.bytes c.args.choice.meta c.take_freed-index.result c.take_freed-index.new.seat c.rotate.new.self c.decay.new.self c.self.view_is c.requires.class c.requires.bytes c.requires.member c.requires.bare c.requires.idle c.rotate.ensures.rotated (table g c) (takes g c) c.requires.working).only
 
 pub returns-clause-served : goal.returns-clause-served
 returns-clause-served g c =
-    (serves g.N.Name.start g.M.Mapper.span g.M.Mapper.runs g.M.Mapper.refused _ _ c.args.class c.args.bytes c.args.choice.meta c.take_freed-index.result c.take_freed-index.new.seat c.rotate.new.self c.decay.new.self c.self.view_is c.requires.class c.requires.bytes c.requires.member c.requires.bare c.requires.idle c.rotate.ensures.rotated (table g c) (takes g c) c.requires.working).served
+    (serves g.N.Name.facts.start g.M.Mapper.span g.M.Mapper.runs g.M.Mapper.refused _ _ c.args.class c.args.bytes c.args.choice.meta c.take_freed-index.result c.take_freed-index.new.seat c.rotate.new.self c.decay.new.self c.self.view_is c.requires.class c.requires.bytes c.requires.member c.requires.bare c.requires.idle c.rotate.ensures.rotated (table g c) (takes g c) c.requires.working).served

@@ -13,40 +13,40 @@ pub pop_core-requires-clause-live : goal.pop_core-requires-clause-live
 pop_core-requires-clause-live g c =
     let begins : slice_get (ring_of c.args.self.now.rings c.args.class) 0 ≡ Some c.in_ok-first.first =
     subst (λ (s : State g.row.M.Denot g.row.P.Denot). slice_get (ring_of s.rings c.args.class) 0 ≡ Some c.in_ok-first.first) c.self.view_is (sym c.in_ok-first.ensures.first) in
-    live_at g.N.Name.start g.M.Mapper.span g.M.Mapper.runs g.M.Mapper.refused _ _ c.args.class c.in_ok-first.first c.self.view_is c.requires.working c.requires.class (Contains-first (ring_of c.args.self.now.rings c.args.class) c.in_ok-first.first (sym begins))
+    live_at g.N.Name.facts.start g.M.Mapper.span g.M.Mapper.runs g.M.Mapper.refused _ _ c.args.class c.in_ok-first.first c.self.view_is c.requires.working c.requires.class (Contains-first (ring_of c.args.self.now.rings c.args.class) c.in_ok-first.first (sym begins))
 
 pub refill-requires-clause-working : goal.refill-requires-clause-working
 refill-requires-clause-working g c =
-    (passes g.N.Name.start g.M.Mapper.span g.M.Mapper.runs g.M.Mapper.refused _ _ c.args.class c.pop_core.new.seat c.self.view_is (none_grows c.self.inside.seat c.pop_core.new.seat c.in_ok-first.first c.in-None.ensures.none) c.requires.working).working
+    (passes g.N.Name.facts.start g.M.Mapper.span g.M.Mapper.runs g.M.Mapper.refused _ _ c.args.class c.pop_core.new.seat c.self.view_is (none_grows c.self.inside.seat c.pop_core.new.seat c.in_ok-first.first c.in-None.ensures.none) c.requires.working).working
 
 pub refill-requires-clause-bare : goal.refill-requires-clause-bare
 refill-requires-clause-bare g c =
     let begins : slice_get (ring_of c.args.self.now.rings c.args.class) 0 ≡ Some c.in_ok-first.first =
     subst (λ (s : State g.row.M.Denot g.row.P.Denot). slice_get (ring_of s.rings c.args.class) 0 ≡ Some c.in_ok-first.first) c.self.view_is (sym c.in_ok-first.ensures.first) in
-    none_bare g.N.Name.start g.M.Mapper.span g.M.Mapper.runs g.M.Mapper.refused _ _ c.args.class c.in_ok-first.first c.pop_core.new.seat c.self.view_is c.requires.class begins c.in-None.ensures.none c.requires.working
+    none_bare g.N.Name.facts.start g.M.Mapper.span g.M.Mapper.runs g.M.Mapper.refused _ _ c.args.class c.in_ok-first.first c.pop_core.new.seat c.self.view_is c.requires.class begins c.in-None.ensures.none c.requires.working
 
 pub returns-in-Some-clause-working : goal.returns-in-Some-clause-working
 returns-in-Some-clause-working g c =
     let begins : slice_get (ring_of c.args.self.now.rings c.args.class) 0 ≡ Some c.in_ok-first.first =
     subst (λ (s : State g.row.M.Denot g.row.P.Denot). slice_get (ring_of s.rings c.args.class) 0 ≡ Some c.in_ok-first.first) c.self.view_is (sym c.in_ok-first.ensures.first) in
-    (lowest_serves g.N.Name.start g.M.Mapper.span g.M.Mapper.runs g.M.Mapper.refused _ _ c.args.class c.args.bytes c.in_ok-first.first c.in-Some.index c.pop_core.new.seat c.self.view_is c.requires.class c.requires.bytes begins c.requires.idle c.in-Some.ensures.taken c.requires.working).working
+    (lowest_serves g.N.Name.facts.start g.M.Mapper.span g.M.Mapper.runs g.M.Mapper.refused _ _ c.args.class c.args.bytes c.in_ok-first.first c.in-Some.index c.pop_core.new.seat c.self.view_is c.requires.class c.requires.bytes begins c.requires.idle c.in-Some.ensures.taken c.requires.working).working
 
 pub returns-in-Some-clause-only : goal.returns-in-Some-clause-only
 returns-in-Some-clause-only g c =
     let begins : slice_get (ring_of c.args.self.now.rings c.args.class) 0 ≡ Some c.in_ok-first.first =
     subst (λ (s : State g.row.M.Denot g.row.P.Denot). slice_get (ring_of s.rings c.args.class) 0 ≡ Some c.in_ok-first.first) c.self.view_is (sym c.in_ok-first.ensures.first) in
-    (lowest_serves g.N.Name.start g.M.Mapper.span g.M.Mapper.runs g.M.Mapper.refused _ _ c.args.class c.args.bytes c.in_ok-first.first c.in-Some.index c.pop_core.new.seat c.self.view_is c.requires.class c.requires.bytes begins c.requires.idle c.in-Some.ensures.taken c.requires.working).only
+    (lowest_serves g.N.Name.facts.start g.M.Mapper.span g.M.Mapper.runs g.M.Mapper.refused _ _ c.args.class c.args.bytes c.in_ok-first.first c.in-Some.index c.pop_core.new.seat c.self.view_is c.requires.class c.requires.bytes begins c.requires.idle c.in-Some.ensures.taken c.requires.working).only
 
 pub returns-in-Some-clause-served : goal.returns-in-Some-clause-served
 returns-in-Some-clause-served g c =
     let begins : slice_get (ring_of c.args.self.now.rings c.args.class) 0 ≡ Some c.in_ok-first.first =
     subst (λ (s : State g.row.M.Denot g.row.P.Denot). slice_get (ring_of s.rings c.args.class) 0 ≡ Some c.in_ok-first.first) c.self.view_is (sym c.in_ok-first.ensures.first) in
-    (lowest_serves g.N.Name.start g.M.Mapper.span g.M.Mapper.runs g.M.Mapper.refused _ _ c.args.class c.args.bytes c.in_ok-first.first c.in-Some.index c.pop_core.new.seat c.self.view_is c.requires.class c.requires.bytes begins c.requires.idle c.in-Some.ensures.taken c.requires.working).served
+    (lowest_serves g.N.Name.facts.start g.M.Mapper.span g.M.Mapper.runs g.M.Mapper.refused _ _ c.args.class c.args.bytes c.in_ok-first.first c.in-Some.index c.pop_core.new.seat c.self.view_is c.requires.class c.requires.bytes begins c.requires.idle c.in-Some.ensures.taken c.requires.working).served
 
 pub returns-in-None-clause-only : goal.returns-in-None-clause-only
 returns-in-None-clause-only g c =
     only_then c.args.class c.args.self.now _ c.refill.new.self
-    (passes g.N.Name.start g.M.Mapper.span g.M.Mapper.runs g.M.Mapper.refused _ _ c.args.class c.pop_core.new.seat c.self.view_is (none_grows c.self.inside.seat c.pop_core.new.seat c.in_ok-first.first c.in-None.ensures.none) c.requires.working).only
+    (passes g.N.Name.facts.start g.M.Mapper.span g.M.Mapper.runs g.M.Mapper.refused _ _ c.args.class c.pop_core.new.seat c.self.view_is (none_grows c.self.inside.seat c.pop_core.new.seat c.in_ok-first.first c.in-None.ensures.none) c.requires.working).only
     c.refill.ensures.only
 
 pub returns-in-None-clause-none : goal.returns-in-None-clause-none

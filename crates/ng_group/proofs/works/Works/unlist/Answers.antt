@@ -11,10 +11,10 @@ returns-clause-working g c =
     let member : IsIn c.self.inside.rings c.args.class c.args.meta = subst (λ (s : State g.row.M.Denot g.row.P.Denot). IsIn s.rings c.args.class c.args.meta) (sym c.self.view_is) c.requires.member in
     let table : IsTable c.self.inside.rings = record { classes = c.stand_once.ensures.classes; places = c.stand_once.ensures.places; once = c.stand_once.ensures.once; apart = c.stand_once.ensures.apart } in
     let is = noted_unlisted c.self.inside.seat c.note_ring.new.seat c.args.meta c.note_ring.result whole c.note_ring.ensures in
-    unlisted_works c.self.inside.seat c.note_ring.new.seat c.args.meta is g.N.Name.start (g.M.Mapper.span c.self.inside.mapper) (g.M.Mapper.runs c.self.inside.mapper) (g.M.Mapper.refused c.self.inside.mapper)
+    unlisted_works c.self.inside.seat c.note_ring.new.seat c.args.meta is g.N.Name.facts.start (g.M.Mapper.span c.self.inside.mapper) (g.M.Mapper.runs c.self.inside.mapper) (g.M.Mapper.refused c.self.inside.mapper)
     (record { seat = c.self.inside.seat; rings = c.self.inside.rings; stock = c.self.inside.stock; parents = c.self.inside.parents; usage = c.self.inside.usage })
     c.dequeue.new.self c.args.class refl
-    (subst (λ (s : State g.row.M.Denot g.row.P.Denot). Working g.N.Name.start g.M.Mapper.span g.M.Mapper.runs g.M.Mapper.refused s) (sym c.self.view_is) c.requires.working)
+    (subst (λ (s : State g.row.M.Denot g.row.P.Denot). Working g.N.Name.facts.start g.M.Mapper.span g.M.Mapper.runs g.M.Mapper.refused s) (sym c.self.view_is) c.requires.working)
     table member c.dequeue.ensures.removed
 
 pub returns-clause-whole : goal.returns-clause-whole

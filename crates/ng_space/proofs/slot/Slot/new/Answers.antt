@@ -14,7 +14,7 @@ stride-stride-requires-clause-maplen g c =
     let p = c.requires.place in
     let is = fields_are p.0 _ _ _ _ _ p.1 c.fields_of-fields.ensures.fields in let same = is.maplen in let few = p.2.few in omega arith
 
-below : (g : Over) (c : goal.After-stride-stride g) → c.args.base + 16 + c.stride-stride.result * c.args.index + c.stride-stride.result ≤ 4096 * g.N.Name.start.pages
+below : (g : Over) (c : goal.After-stride-stride g) → c.args.base + 16 + c.stride-stride.result * c.args.index + c.stride-stride.result ≤ 4096 * g.N.Name.facts.start.pages
 below g c =
     let p = c.requires.place in
     let is = fields_are p.0 _ _ _ _ _ p.1 c.fields_of-fields.ensures.fields in
@@ -27,7 +27,7 @@ pub invariant_of-result : goal.invariant_of-result
 invariant_of-result g c =
     let p = c.requires.place in
     let l = p.2 in let r = p.1 in record {
-      place = subst (λ m. IsMetaPlace m g.N.Name.start.pages) r.meta_is l.meta;
+      place = subst (λ m. IsMetaPlace m g.N.Name.facts.start.pages) r.meta_is l.meta;
       few = (let le = l.index in let many = l.many in let is = r.index_is in omega arith);
       whole = (let base = l.whole in let is = r.base_is in omega arith);
       first = (let start = c.slot_start.ensures in omega arith);

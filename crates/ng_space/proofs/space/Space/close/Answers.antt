@@ -4,7 +4,7 @@ use Rattle.ng_view.specs.declared.view.View.{View}
 use Rattle.ng_space.specs.Callers.{Caller}
 use Rattle.ng_space.proofs.Opening.{length-snoc}
 use Rattle.ng_space.proofs.Gathering.{Gathered, gathers_none, gathers_one, gathers_all, still_leads}
-use Rattle.ng_space.proofs.Closed.{IsClosed, IsLock, closes}
+use Rattle.ng_space.proofs.Closed.{IsLock, closes}
 use Rattle.ng_space.proofs.space.Space.close.Given.{Over}
 use Rattle.ng_space.proofs.space.Space.close.Goals as goal
 
@@ -21,8 +21,7 @@ loop-hand-init g c =
       gathers_none c.seat.inside.seat.me.0 rest c.seat.inside.shelf.items is.cleared,
       is.fits,
       hands.1 ∙ c.args.hands.ok.0 ∙ sym len,
-      (let none : length c.seat.inside.shelf.items ≡ 0 = ap length is.cleared in let room = is.roomy in let few = is.few in let count = c.requires.all.count in
-          let next = ap (λ (v : View). v.desk.next) c.seat.view_is in omega arith),
+      (let none : length c.seat.inside.shelf.items ≡ 0 = ap length is.cleared in let room = is.roomy in let few = is.few in let many = c.requires.all.many in omega arith),
     )
 
 pub take_hand-requires-clause-leads : goal.take_hand-requires-clause-leads
@@ -45,44 +44,12 @@ in_all g c =
     let at = c.loop-hand in
     gathers_all _ _ _ _ _ _ _ _ at.invariant.0 (nothing_left _ (sym at.invariant.2 ∙ c.in-None.ensures.steps.0)) c.seat.view_is c.into_iter-hand-iterator.ensures.into_iter_gives.0
 
-closed : (g : Over) (c : goal.After-close_seat g) → IsClosed g.N.Name.start c.close_seat.result.words c.args.seat c.args.hands.items
-closed g c =
+pub returns-clause-closed : goal.returns-clause-closed
+returns-clause-closed g c =
     let is = c.seat.invariant in
     let lock : IsLock c.args.seat = subst IsLock c.seat.view_is (record { leads = is.leads; whole = is.whole; none_sent = is.none_sent; none_taken = is.none_taken }) in
-    closes _ _ _ _ _ _ c.close_seat.ensures.ended (in_all g c) lock c.requires.all c.requires.parcels c.requires.settled c.requires.blanked
-
-pub returns-clause-slots : goal.returns-clause-slots
-returns-clause-slots g c = (closed g c).ends.slots
-
-pub returns-clause-words : goal.returns-clause-words
-returns-clause-words g c = (closed g c).ends.words
-
-pub returns-clause-listing : goal.returns-clause-listing
-returns-clause-listing g c = (closed g c).listing
-
-pub returns-clause-excuses : goal.returns-clause-excuses
-returns-clause-excuses g c = (closed g c).ends.excuses
-
-pub returns-clause-history : goal.returns-clause-history
-returns-clause-history g c = (closed g c).ends.history
-
-pub returns-clause-knowledge : goal.returns-clause-knowledge
-returns-clause-knowledge g c = (closed g c).ends.knowledge
-
-pub returns-clause-classes : goal.returns-clause-classes
-returns-clause-classes g c = (closed g c).ends.classes
-
-pub returns-clause-runs : goal.returns-clause-runs
-returns-clause-runs g c = (closed g c).runs
-
-pub returns-clause-free : goal.returns-clause-free
-returns-clause-free g c = (closed g c).free
-
-pub returns-clause-own : goal.returns-clause-own
-returns-clause-own g c = (closed g c).own
-
-pub returns-clause-whole : goal.returns-clause-whole
-returns-clause-whole g c = (closed g c).whole
+    let next = sym (ap (λ (v : View). v.desk.next) c.seat.view_is) ∙ is.next in
+    closes _ _ _ _ _ _ c.close_seat.ensures.ended (in_all g c) lock _ next c.requires.all c.requires.parcels c.requires.settled c.requires.blanked
 
 pub returns-clause-books : goal.returns-clause-books
 returns-clause-books g c = (in_all g c).books

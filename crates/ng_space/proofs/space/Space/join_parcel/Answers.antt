@@ -8,7 +8,7 @@ use Rattle.ng_space.proofs.Sending.{joins_parcel, of_one_slot, taken_block}
 use Rattle.ng_space.proofs.space.Space.join_parcel.Goals as goal
 
 pub take_in-requires-clause-allowed : goal.take_in-requires-clause-allowed
-take_in-requires-clause-allowed g c = joins_parcel _ _ _ c.parcel.invariant _ (λ none. absurd (let own = c.hand.invariant.own_book in cc))
+take_in-requires-clause-allowed g c = joins_parcel _ _ _ c.into_parts-seat.ensures.packed _ (λ none. absurd (let own = c.hand.invariant.own_book in cc))
 
 pub invariant_of-hand : goal.invariant_of-hand
 invariant_of-hand g c =
@@ -25,13 +25,13 @@ pub returns-clause-has : goal.returns-clause-has
 returns-clause-has g c =
     let hand = c.hand.view_is in let block = c.block.view_is in
     let number = c.number-number.ensures ∙ ap (λ (hand : Caller). hand.number) hand in
-    taken_block _ _ _ c.parcel.invariant c.args.hand.now _ _ (ap (λ (hand : Caller). hand.number) hand) (c.take_in.ensures.both ∙ ap (λ (hand : Caller). taken_in hand.view c.parcel.inside.seat.me.0) hand)
+    taken_block _ _ _ c.into_parts-seat.ensures.packed c.args.hand.now _ _ (ap (λ (hand : Caller). hand.number) hand) (c.take_in.ensures.both ∙ ap (λ (hand : Caller). taken_in hand.view c.into_parts-seat.result.0.me.0) hand)
     (ap (λ (slot : Token). record { slot = slot; at = c.block.inside.at; len = c.block.inside.len; align = c.block.inside.align }) c.in_hand.ensures ∙ (λ t. taken_by (block t) (number t)))
 
 pub returns-clause-one : goal.returns-clause-one
-returns-clause-one g c = subst IsOfOneSlot c.parcel.view_is (of_one_slot _ _ _ c.parcel.invariant)
+returns-clause-one g c = subst IsOfOneSlot (λ t. record { view = c.into_parts-seat.ensures.view t; block = c.into_parts-seat.ensures.block t }) (of_one_slot _ _ _ c.into_parts-seat.ensures.packed)
 
 pub returns-clause-view : goal.returns-clause-view
 returns-clause-view g c =
-    let hand = c.hand.view_is in let parcel = c.parcel.view_is in
-    c.take_in.ensures.both ∙ (λ t. taken_in (hand t).view (parcel t).view)
+    let hand = c.hand.view_is in let parcel = c.into_parts-seat.ensures.view in
+    c.take_in.ensures.both ∙ (λ t. taken_in (hand t).view (parcel t))

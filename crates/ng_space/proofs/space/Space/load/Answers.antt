@@ -13,10 +13,10 @@ pub load_told-requires-clause-may : goal.load_told-requires-clause-may
 load_told-requires-clause-may g c = loads_and_tells _ _ _ _ c.requires.cell
 
 pub returns-clause-told : goal.returns-clause-told
-returns-clause-told g c = subst (λ (v : View). Tells g.N.Name.start v c.args.addr c.load_told.result) (ap (λ (hand : Caller). hand.view) c.hand.view_is) c.load_told.ensures.told.1
+returns-clause-told g c = subst (λ (v : View). Tells g.N.Name.facts.start v c.args.addr c.load_told.result) (ap (λ (hand : Caller). hand.view) c.hand.view_is) c.load_told.ensures.told.1
 
 pub returns-clause-placed : goal.returns-clause-placed
-returns-clause-placed g c = subst (ArePlaced g.N.Name.start) (ap (λ (hand : Caller). hand.view) c.hand.view_is) c.load_told.ensures.told.2
+returns-clause-placed g c = subst (ArePlaced g.N.Name.facts.start) (ap (λ (hand : Caller). hand.view) c.hand.view_is) c.load_told.ensures.told.2
 
 pub returns-clause-slots : goal.returns-clause-slots
 returns-clause-slots g c = λ slot has.

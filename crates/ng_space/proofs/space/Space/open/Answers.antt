@@ -1,9 +1,12 @@
-use Rattle.std.proofs.Common.{◌≡◌, ◌∷◌, [], ℕ, List, length, refl, sym, ap, subst, ◌∙◌, arith}
+use Rattle.std.proofs.Common.{◌≡◌, ◌∷◌, [], ℕ, suc, List, length, refl, sym, ap, subst, ◌∙◌, arith}
 use Rattle.std.specs.Vec.Iter.{into_iter_items}
 use Rattle.ng_history.specs.Book.{Shown}
 use Rattle.ng_space.specs.Blanks.{rooms_of, fresh_books}
-use Rattle.ng_space.specs.Callers.{fresh_callers, opened}
+use Rattle.ng_space.specs.Callers.{Caller, fresh_callers, opened}
+use Rattle.ng_view.specs.Lists.{Among}
 use Rattle.ng_view.specs.Steps.{opener}
+use Rattle.ng_view.specs.declared.view.Held.{Held}
+use Rattle.ng_view.specs.declared.view.Start.{Start}
 use Rattle.ng_view.specs.declared.view.View.{View}
 use Rattle.ng_space.proofs.Opening.{Opening, next_book, opens_first, opens_next_hand, opens_last, length-snoc}
 use Rattle.ng_space.proofs.space.Space.open.Goals as goal
@@ -15,6 +18,14 @@ nothing_left (x ∷ xs) h = absurd (omega arith)
 rooms : (books rest : List Shown) (rs : List ℕ) → rest ≡ books → rooms_of books ≡ rs → rooms_of rest ≡ rs
 rooms books rest rs e f = ap rooms_of e ∙ f
 
+-- the lock's seat has the number of all hands
+the_lock : (key : Start) (count : ℕ) (all made : List ℕ) (v : View) (hands : List Caller) (rest : List Shown) → Opening key all v hands rest → rest ≡ [] → all ≡ made → length made ≡ count → v ≡ opened key count
+the_lock key count all made v hands rest o none same many = (opens_last key all v hands rest o none).0 ∙ ap (λ rs. opened key (length rs)) same ∙ ap (opened key) many
+
+length-rooms : (books : List Shown) → length (rooms_of books) ≡ length books
+length-rooms [] = refl
+length-rooms (b ∷ books) = ap suc (length-rooms books)
+
 pub loop-book-init : goal.loop-book-init
 loop-book-init g c =
     let blank = c.blank in
@@ -22,7 +33,7 @@ loop-book-init g c =
     let rest : List Shown = into_iter_items c.into_iter-book-iterator.result in
     let start = ap (λ b. b.start) blank.view_is ∙ c.requires.start in
     let len : length rest ≡ length blank.inside.books.items = ap length books.0 in (
-      opens_first g.N.Name.start blank.inside.seat.me.0 c.in-Ok.hands.items rest (ap (λ me. me.0) blank.invariant.first ∙ ap opener start) c.in-Ok.ensures.items
+      opens_first g.N.Name.facts.start blank.inside.seat.me.0 c.in-Ok.hands.items rest (ap (λ me. me.0) blank.invariant.first ∙ ap opener start) c.in-Ok.ensures.items
           (subst (λ (bs : List Shown). bs ≡ fresh_books 1 (rooms_of bs)) (sym books.0) blank.invariant.fresh)
           (let few = blank.invariant.few in omega arith),
       blank.invariant.fits ∙ ap (λ b. b.table) blank.view_is ∙ c.requires.table,
@@ -62,11 +73,30 @@ loop-book-preserved g c =
       (let more = ap length pushed.items in let one = length-snoc at.hands.items c.next_hand.result in let short = ap length steps.0 in let room = at.invariant.4 in let same = pushed.capacity in omega arith),
     )
 
+pub invariant_of-lock : goal.invariant_of-lock
+invariant_of-lock g c =
+    let at = c.loop-book in let blank = c.blank.invariant in
+    let lock = the_lock g.N.Name.facts.start _ _ _ at.seat.me.0 _ _ at.invariant.0 (nothing_left _ (sym at.invariant.3 ∙ c.in-None.ensures.steps.0))
+            (rooms c.blank.inside.books.items _ _ c.into_iter-book-iterator.ensures.into_iter_gives.0 (ap (λ b. b.rooms) c.blank.view_is)) c.requires.hands in record {
+      fits = at.invariant.1;
+      no_slots = at.invariant.2;
+      leads = ap (λ (v : View). v.leads) lock;
+      whole = ap (λ (v : View). v.parcel) lock;
+      bookless = ap (λ (v : View). v.books) lock;
+      none_sent = ap (λ (v : View). v.sent) lock;
+      none_taken = ap (λ (v : View). v.taken) lock;
+      moving = λ h there. elim (subst (λ (v : View). Among h v.held) lock there) [ ];
+      next = ap (λ (v : View). v.desk.next) lock;
+      few = (let few = blank.few in let all = c.requires.hands in let rooms = ap (λ b. length b.rooms) c.blank.view_is in let same = length-rooms c.blank.inside.books.items in omega arith);
+      cleared = blank.cleared;
+      roomy = blank.shelf_room;
+    }
+
 pub returns-clause-lock : goal.returns-clause-lock
 returns-clause-lock g c =
     let at = c.loop-book in
-    let none = nothing_left _ (sym at.invariant.3 ∙ c.in-None.ensures.steps.0) in
-    (opens_last _ _ _ _ _ at.invariant.0 none).0 ∙ ap (λ rooms. opened g.N.Name.start (length rooms)) (rooms c.blank.inside.books.items _ _ c.into_iter-book-iterator.ensures.into_iter_gives.0 (ap (λ b. b.rooms) c.blank.view_is))
+    the_lock g.N.Name.facts.start _ _ _ at.seat.me.0 _ _ at.invariant.0 (nothing_left _ (sym at.invariant.3 ∙ c.in-None.ensures.steps.0))
+        (rooms c.blank.inside.books.items _ _ c.into_iter-book-iterator.ensures.into_iter_gives.0 (ap (λ b. b.rooms) c.blank.view_is)) c.requires.hands
 
 pub returns-clause-hands : goal.returns-clause-hands
 returns-clause-hands g c =

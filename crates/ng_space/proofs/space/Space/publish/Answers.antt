@@ -10,7 +10,7 @@ pub publish_told-requires-clause-may : goal.publish_told-requires-clause-may
 publish_told-requires-clause-may g c =
     let value = c.avail_word-word.ensures.value in
     let same : (c.args.class + 1) * 4294967296 + c.args.mask ≡ c.avail_word-word.result = omega arith in
-    subst (λ (n : ℕ). May g.N.Name.start c.seat.inside.seat.id c.seat.inside.seat.me.0 ((c.args.meta + 24) / 4) (λ _. n) (λ before found after. Publishes before c.args.meta c.args.class c.args.mask after)) same
+    subst (λ (n : ℕ). May g.N.Name.facts.start c.seat.inside.seat.id c.seat.inside.seat.me.0 ((c.args.meta + 24) / 4) (λ _. n) (λ before found after. Publishes before c.args.meta c.args.class c.args.mask after)) same
     (publishes _ _ _ c.seat.invariant.leads c.seat.invariant.moving c.args.meta c.args.class c.args.mask (subst (λ (v : View). MayPublish v c.args.meta c.args.class c.args.mask) (sym c.seat.view_is) c.requires.built))
 
 pub invariant_of-seat : goal.invariant_of-seat

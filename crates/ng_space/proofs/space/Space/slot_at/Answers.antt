@@ -11,8 +11,8 @@ use Rattle.ng_space.proofs.space.Space.slot_at.Goals as goal
 
 is_read : (g : Over) (c : goal.After-number-number g) → IsRead c.requires.free.held.place c.args.meta c.args.index c.load-base.result c.load-flags.result
 is_read g c =
-    let second = subst (λ (v : View). Tells g.N.Name.start v (c.args.meta + 32) c.load-flags.result) c.load-base.ensures.view c.load-flags.ensures.told in
-    read_of g.N.Name.start c.args.hand.now.view _ _ _ _ c.requires.free.held c.requires.free.found c.load-base.ensures.told second
+    let second = subst (λ (v : View). Tells g.N.Name.facts.start v (c.args.meta + 32) c.load-flags.result) c.load-base.ensures.view c.load-flags.ensures.told in
+    read_of g.N.Name.facts.start c.args.hand.now.view _ _ _ _ c.requires.free.held c.requires.free.found c.load-base.ensures.told second
 
 pub overflow_cast-flags : goal.overflow_cast-flags
 overflow_cast-flags g c =
