@@ -1,5 +1,5 @@
 -- What a call leaves of a core, once a slot or an excuse has passed to a hand.
-use Rattle.std.proofs.Common.{◌≡◌, ℕ, ◌<◌, cond, eqb, Bool, true, List, [], ◌∷◌, refl, sym, ap, ◌∙◌, subst}
+use Rattle.std.proofs.Common.{◌≡◌, ℕ, ◌<◌, ◌≤◌, max, arith, cond, eqb, Bool, true, List, [], ◌∷◌, refl, sym, ap, ◌∙◌, subst}
 use Rattle.std.specs.Prelude.{Some, None}
 use Rattle.std.proofs.lemmas.Bool.{eq-eqb}
 use Rattle.ng_rule.proofs.geometry.Lists.{is_at-here}
@@ -17,11 +17,14 @@ use Rattle.ng_view.specs.Steps.{excuse_at, in_motion, pushed, unexcused, without
 use Rattle.ng_view.specs.declared.view.Excuse.{Excuse}
 use Rattle.ng_view.specs.declared.view.Held.{Held}
 use Rattle.ng_view.specs.declared.view.Place.{Place}
+use Rattle.ng_space.specs.Names.{Facts}
+use Rattle.ng_terms.specs.Accounts.{pages_for}
 use Rattle.ng_view.specs.declared.view.Start.{Start}
 use Rattle.ng_view.specs.declared.view.View.{View}
 use Rattle.ng_ledger.specs.Standing.{InHand, KeepsHand, Ledger}
 use Rattle.ng_ledger.proofs.HandLemmas.{keeps_hand-none}
 use Rattle.ng_group.specs.declared.heap_core.Core.TheInside.{Inside}
+use Rattle.ng_group.specs.Opening.{IsMostBounded}
 use Rattle.ng_group.specs.Serving.{HasServed}
 use Rattle.ng_group.specs.States.{IsResting, IsWorking, Resting, State, Working, ledger_of}
 use Rattle.ng_group.specs.Steps.{GoesOn, IsCalm, IsRefused}
@@ -112,6 +115,18 @@ unexcused_view v w number view = subst (λ (x : View). x ≡ record v { held = x
 -- ---- the parts of a core are a state of works
 pub works_of : {N M P : Type 0} {x y : Inside N M P} → x ≡ y → x.works ≡ y.works
 works_of same = ap (λ x. x.works) same
+
+-- ---- the most refused pages stay within their bound, where no map call was refused, or one for so many pages
+pub bounded_calm : {M P : Type 0} (facts : Facts) (refused : M → Refusals) {s s' : State M P} → s ≡ s' → (was : Refusals) → IsMostBounded facts was
+    → refused s'.mapper ≡ was → IsMostBounded facts (refused s.mapper)
+bounded_calm {M = M} {P = P} facts refused same was bounded calm =
+    subst (λ (x : State M P). IsMostBounded facts (refused x.mapper)) (sym same) (subst (IsMostBounded facts) (sym calm) bounded)
+
+pub bounded_most : {M P : Type 0} (facts : Facts) (refused : M → Refusals) {s s' : State M P} → s ≡ s' → (was : Refusals) → IsMostBounded facts was
+    → (pages : ℕ) → (refused s'.mapper).most ≤ max was.most pages → pages ≤ max 512 (pages_for facts.start.cap)
+    → IsMostBounded facts (refused s.mapper)
+bounded_most {M = M} {P = P} facts refused same was bounded pages most few =
+    subst (λ (x : State M P). IsMostBounded facts (refused x.mapper)) (sym same) (omega arith)
 
 -- ---- what a call tells that got a slot into the seat
 pub record Serves {M P : Type 0} (start : Start) (span : M → Span) (runs : M → List mapper.Run) (refused : M → Refusals) (class bytes meta index : ℕ)

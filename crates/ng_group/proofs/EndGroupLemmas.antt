@@ -1,5 +1,5 @@
 -- A group has left its ring and is no more: what the steps that end it owe, and what stands then.
-use Rattle.std.proofs.Common.{◌≡◌, ℕ, ◌+◌, ◌*◌, ◌%◌, ◌<◌, ◌≤◌, List, [], ◌++◌, Contains, Option, Some, IsSome, refl, sym, ap, ◌∙◌, subst, arith}
+use Rattle.std.proofs.Common.{◌≡◌, ℕ, ◌+◌, ◌*◌, ◌%◌, ◌<◌, ◌≤◌, List, [], ◌++◌, Contains, Option, Some, IsSome, refl, sym, ap, ◌∙◌, subst, arith, inr}
 use Rattle.std.proofs.lemmas.List.{append-nil}
 use Rattle.std.proofs.lemmas.Option.{same_Some}
 use Rattle.ng_meta.specs.Place.{IsMetaPlace}
@@ -78,7 +78,7 @@ module _ {M P : Type 0} {start : Start} {span : M → Span} {runs : M → List m
   seat_is = e.ends.cells.view ∙ ap (λ (v : View). knowing v t.seat.desk.cells t.seat.readings) e.ends.retires.view
 
   kept : Keeps e.mid.seat.desk.cells t.seat.desk.cells meta (meta + 40)
-  kept b x outside there = e.ends.kept b x outside (subst (λ (v : View). Sees v b x) (sym e.ends.retires.view) there)
+  kept b x outside there = e.ends.kept b x outside (subst (λ (v : View). Sees v b x) (sym e.ends.retires.view) (inr there))
 
   clear : IsBlankMeta t.seat.desk.cells meta
   clear b low whole4 =

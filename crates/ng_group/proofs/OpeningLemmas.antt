@@ -9,6 +9,7 @@ use Rattle.ng_lists.specs.Rings.{RingTable, ring_of}
 use Rattle.ng_shelf.specs.Parents.{ParentTable}
 use Rattle.ng_shelf.specs.Stock.{Stock, free_of}
 use Rattle.ng_space.specs.Callers.{opened}
+use Rattle.ng_space.specs.Names.{Facts}
 use Rattle.ng_view.specs.Conditions.{IsBlanked, IsSettled}
 use Rattle.ng_view.specs.Lists.{Among}
 use Rattle.ng_view.specs.declared.view.Start.{Start}
@@ -21,7 +22,7 @@ use Rattle.ng_ledger.proofs.HandLemmas.{blanked}
 use Rattle.ng_ledger.proofs.ServedLemmas.{settled}
 use Rattle.ng_ledger.proofs.TableLemmas.{nowhere, tail_in}
 use Rattle.ng_ledger.proofs.UsageLemmas.{bounded}
-use Rattle.ng_group.specs.Opening.{AreEmpty, IsFreshMapper, IsFreshSeat, IsHandedBack}
+use Rattle.ng_group.specs.Opening.{AreEmpty, IsFreshMapper, IsFreshSeat, IsHandedBack, IsMostBounded}
 use Rattle.ng_group.specs.States.{IsResting, IsWorking, Resting, State, Working}
 
 -- ---- the usage of a class is far below 2 ^ 32
@@ -129,10 +130,14 @@ pub blanked_at : {M P : Type 0} (start : Start) (span : M → Span) (runs : M �
 blanked_at {M = M} {P = P} start span runs refused {s = s} same rests =
     subst (λ (x : State M P). IsBlanked x.seat) same (blanked start.pages s.seat (free_of s.stock) rests.working.stands.free rests.at_rest)
 
-pub handed_at : {M P : Type 0} (start : Start) (span : M → Span) (runs : M → List mapper.Run) (refused : M → Refusals) {s s' : State M P}
-    → s ≡ s' → Resting start span runs refused s → IsHandedBack s'.seat (runs s'.mapper) (refused s'.mapper)
-handed_at {M = M} {P = P} start span runs refused {s = s} same rests =
-    subst (λ (x : State M P). IsHandedBack x.seat (runs x.mapper) (refused x.mapper)) same (record {
+pub handed_at : {M P : Type 0} (facts : Facts) (span : M → Span) (runs : M → List mapper.Run) (refused : M → Refusals) {s s' : State M P}
+    → s ≡ s' → Resting facts.start span runs refused s → IsMostBounded facts (refused s.mapper) → IsHandedBack facts s'.seat (span s'.mapper) (runs s'.mapper) (refused s'.mapper)
+handed_at {M = M} {P = P} facts span runs refused {s = s} same rests most =
+    subst (λ (x : State M P). IsHandedBack facts x.seat (span x.mapper) (runs x.mapper) (refused x.mapper)) same (record {
+      lower = rests.working.space.lower;
+      upper = rests.working.space.upper;
+      size = rests.working.space.size;
+      most = most;
       mapped = rests.working.stands.mapped;
       counted = rests.working.counted;
       leads = rests.working.leads;

@@ -1,5 +1,5 @@
 -- How a core begins, and what it hands back.
-use Rattle.std.specs.Prelude.{◌≡◌, ℕ, ◌≤◌, true, List, [], replicate}
+use Rattle.std.specs.Prelude.{◌≡◌, ℕ, ◌≤◌, max, true, List, [], replicate}
 use Rattle.ng_mapper.specs.Mapping.{Span}
 use Rattle.ng_mapper.specs.Runs as mapper
 use Rattle.ng_mapper.specs.declared.refusals.Refusals.{Refusals}
@@ -8,6 +8,8 @@ use Rattle.ng_shelf.specs.Stock.{Stock, free_of}
 use Rattle.ng_lists.specs.Rings.{RingTable}
 use Rattle.ng_ledger.specs.Runs.{AreMapped}
 use Rattle.ng_space.specs.Callers.{opened}
+use Rattle.ng_space.specs.Names.{Facts}
+use Rattle.ng_terms.specs.Accounts.{pages_for}
 use Rattle.ng_view.specs.declared.view.Start.{Start}
 use Rattle.ng_view.specs.declared.view.View.{View}
 
@@ -39,9 +41,19 @@ pub record AreEmpty (pages : ℕ) (tables : Empty) : Type 0 where
   pub stock_pages : tables.stock.pages ≡ pages
   pub parent_pages : tables.parents.pages ≡ pages
 
--- what a core hands back: the noted runs are the mapper's live ones, no number above the mapper's refusals was noted, and the
--- seat leads and has no slot in motion, no excuse and no book
-pub record IsHandedBack (v : View) (live : List mapper.Run) (refused : Refusals) : Type 0 where
+-- no refused map call asked for more pages than one had before the heap began, than a group of slots has, or than a block of
+-- the largest size that is asked for needs
+abbrev pub IsMostBounded : Facts → Refusals → Type 0
+IsMostBounded facts refused = refused.most ≤ max facts.most (max 512 (pages_for facts.start.cap))
+
+-- what a core hands back: the mapper has the heap's bounds, and refused no call for more pages than were asked; the noted runs
+-- are its live ones, and no number above its refusals was noted; and the seat leads and has no slot in motion, no excuse and
+-- no book
+pub record IsHandedBack (facts : Facts) (v : View) (span : Span) (live : List mapper.Run) (refused : Refusals) : Type 0 where
+  pub lower : span.lower ≡ facts.start.lower
+  pub upper : span.upper ≡ facts.start.upper
+  pub size : span.size ≡ facts.start.pages
+  pub most : IsMostBounded facts refused
   pub mapped : AreMapped v.desk.layout.runs live
   pub counted : v.desk.refusals ≤ refused.count
   pub leads : v.leads ≡ true

@@ -29,20 +29,23 @@ use std::marker::Model;
 ///
 /// Between two calls no slot is in motion; the noted runs are the mapper's live ones, and each is an area or the run of a
 /// live group; the metas of the rings are the listed ones, and those after a ring's first have avail noted as 0; and the
-/// free metas are those of the areas without a live group, and known to be 0.
+/// free metas are those of the areas without a live group, and known to be 0. No refused map call asked for more pages than
+/// one had before, than a group of slots has, or than the largest block that is asked for needs.
 #[derive(Drop)]
 pub struct Core<N: Name, M: Mapper, P: Rules> {
     pub(crate) works: Works<N, M, P>,
 }
 
 impl<N: Name, M: Mapper, P: Rules> Model for Core<N, M, P> {
+    ghost use Rattle.ng_group.specs.Opening.{IsMostBounded};
     ghost use Rattle.ng_group.specs.States.{Resting, State};
 
     ghost Value = { State M P };
 
     ghost view = { λ core. core.works };
 
-    ghost invariant = { λ core. Resting N.facts.start M.span M.runs M.refused core.works };
+    ghost invariant = { λ core. Resting N.facts.start M.span M.runs M.refused core.works
+        × IsMostBounded N.facts (M.refused core.works.mapper) };
 }
 
 impl<N: Name, M: Mapper, P: Rules> Core<N, M, P> {
@@ -57,6 +60,7 @@ impl<N: Name, M: Mapper, P: Rules> Core<N, M, P> {
         requires seat { IsFreshSeat N.facts.start seat }
         requires tables { AreEmpty N.facts.start.pages tables }
         requires mapper { IsFreshMapper N.facts.start (M.span mapper) (M.runs mapper) (M.refused mapper) }
+        requires most { (M.refused mapper).most ≡ N.facts.most }
         ensures seat { result.seat ≡ seat }
         ensures mapper { result.mapper ≡ mapper }
         ensures rules { result.rules ≡ rules }
@@ -157,6 +161,7 @@ impl<N: Name, M: Mapper, P: Rules> Core<N, M, P> {
     ) -> Result<Slot<N>, Excuse<N>>
         requires large { 131052 ≤ bytes }
         requires bytes { bytes < 9223372036854771711 }
+        requires cap { bytes ≤ N.facts.start.cap }
         ensures slot { IfOk result (IsSlotFor 63 bytes hand.new) }
         ensures gains { IfOk result (λ slot. GainsSlot slot.meta slot.index hand.old.view hand.new.view) }
         ensures apart { IfOk result (λ slot. (token : Token) → HasSlot hand.old token → IsApart token slot) }
@@ -212,7 +217,7 @@ impl<N: Name, M: Mapper, P: Rules> Core<N, M, P> {
         ensures mapper { result.1 ≡ self.mapper }
         ensures settled { IsSettled self.seat }
         ensures blanked { IsBlanked self.seat }
-        ensures left { IsHandedBack self.seat (M.runs self.mapper) (M.refused self.mapper) }
+        ensures left { IsHandedBack N.facts self.seat (M.span self.mapper) (M.runs self.mapper) (M.refused self.mapper) }
     {
         let Core { works } = self;
         let Works {

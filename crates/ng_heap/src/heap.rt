@@ -1,15 +1,8 @@
 // A heap's beginning and end.
-ghost use Rattle.std.specs.Prelude.{◌≡◌, All, IfErr, IfOk, false, length};
+ghost use Rattle.std.specs.Prelude.{◌≡◌, IfErr, IfOk, length};
 ghost use Rattle.ng_group.specs.Opening.{AreEmpty, IsFreshMapper, IsHandedBack};
 ghost use Rattle.ng_space.specs.Callers.{fresh_callers, opened};
-ghost use Rattle.ng_space.specs.Closings.{AreAll, AreFreeMetasBlank, AreRunsUsed, HasOwnBook, IsEven, books_of, views_of};
-ghost use Rattle.ng_view.specs.Classes.{Classes};
-ghost use Rattle.ng_view.specs.Excuses.{Excuses};
-ghost use Rattle.ng_view.specs.History.{History};
-ghost use Rattle.ng_view.specs.Knowledge.{Knowledge};
-ghost use Rattle.ng_view.specs.Listing.{Listing};
-ghost use Rattle.ng_view.specs.Slots.{Slots};
-ghost use Rattle.ng_view.specs.Words.{Words};
+ghost use Rattle.ng_space.specs.Closings.{AreAll, IsClosed, IsEven, books_of};
 
 use ng_group::{Core, Tables};
 use ng_history::{Book, Host};
@@ -37,9 +30,11 @@ impl<N: Name> Heap<N> {
         requires table { blank.table ≡ N.facts.table }
         requires start { blank.start ≡ N.facts.start }
         requires tables { AreEmpty N.facts.start.pages tables }
+        requires hands { length blank.rooms ≡ N.facts.hands }
         requires mapper { IsFreshMapper N.facts.start (M.span mapper) (M.runs mapper) (M.refused mapper) }
+        requires most { (M.refused mapper).most ≡ N.facts.most }
         ensures hands { IfOk result (λ made. made.2.items ≡ fresh_callers 1 blank.rooms) }
-        ensures seat { IfOk result (λ made. made.1.seat ≡ opened N.facts.start (length blank.rooms)) }
+        ensures seat { IfOk result (λ made. made.1.seat ≡ opened N.facts.start N.facts.hands) }
         ensures mapper { IfOk result (λ made. made.1.mapper ≡ mapper) }
         ensures rules { IfOk result (λ made. made.1.rules ≡ rules) }
         ensures handed_back { IfErr result (λ error. error.0 ≡ mapper) }
@@ -58,30 +53,20 @@ impl<N: Name> Heap<N> {
         &self.space
     }
 
-    /// Ends the heap: the last words, the hands' books in their order, and the mapper. What the rule says holds of the
-    /// words and of what the lock's seat and the hands knew. It takes no memory.
+    /// Ends the heap: the last words, which with what the lock's seat and the hands knew meet the rule; the hands' books
+    /// in their order; and the mapper. It takes no memory.
     pub fn close<M: Mapper, P: Rules + Drop>(
         self,
         core: Core<N, M, P>,
         hands: Vec<Hand<N>>,
     ) -> (Image, Vec<Book>, M)
-        requires all { AreAll core.seat hands.items }
+        requires all { AreAll N.facts.hands hands.items }
         requires parcels { IsEven hands.items }
-        ensures slots { Slots result.0.words (views_of core.seat hands.items) }
-        ensures words { Words N.facts.start result.0.words (views_of core.seat hands.items) }
-        ensures listing { Listing result.0.words core.seat.desk }
-        ensures excuses { Excuses N.facts.start (views_of core.seat hands.items) }
-        ensures history { History N.facts.start (views_of core.seat hands.items) }
-        ensures knowledge { Knowledge result.0.words (views_of core.seat hands.items) }
-        ensures classes { Classes (views_of core.seat hands.items) }
-        ensures runs { AreRunsUsed result.0.words core.seat.desk.layout }
-        ensures free { AreFreeMetasBlank result.0.words core.seat.desk.layout }
+        ensures closed { IsClosed N.facts.start result.0.words core.seat hands.items }
         ensures pages { result.0.pages ≡ N.facts.start.pages }
         ensures books { result.1.items ≡ books_of hands.items }
-        ensures own { All HasOwnBook hands.items }
-        ensures whole { All (λ view. view.parcel ≡ false) (views_of core.seat hands.items) }
         ensures mapper { result.2 ≡ core.mapper }
-        ensures left { IsHandedBack core.seat (M.runs core.mapper) (M.refused core.mapper) }
+        ensures left { IsHandedBack N.facts core.seat (M.span core.mapper) (M.runs core.mapper) (M.refused core.mapper) }
     {
         let (seat, mapper) = core.close();
         let (image, books) = self.space.close(seat, hands);

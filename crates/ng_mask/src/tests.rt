@@ -70,6 +70,7 @@ fn pop_once<N: Name, R: Abort>(rt: &R, alloc: Global, blank: Blank) -> Result<()
     requires start { blank.start ≡ N.facts.start }
     requires pages { blank.start.pages ≡ PAGES }
     requires rooms { blank.rooms ≡ 4 ∷ [] }
+    requires hands { N.facts.hands ≡ 1 }
 {
     let (space, lock, mut hands) = Space::<N>::open(alloc, blank)?;
     let hand = &mut hands[0];
@@ -108,6 +109,7 @@ fn pop_in_two<N: Name + Send + Sync, R: Threads + Wait + Abort + Sync>(
     requires start { blank.start ≡ N.facts.start }
     requires pages { blank.start.pages ≡ PAGES }
     requires rooms { blank.rooms ≡ 2 ∷ 1 ∷ [] }
+    requires hands { N.facts.hands ≡ 2 }
 {
     let (space, lock, hands) = Space::<N>::open(alloc, blank)?;
     let (first, second) = two_hands(hands);

@@ -1,4 +1,4 @@
--- The books of the logs and the bound on refused pages, one op on.
+-- The books of the logs, one op on, and the cap of its ops.
 use Rattle.std.proofs.Common.{◌≡◌, ◌≢◌, ℕ, ◌+◌, ◌<◌, ◌≤◌, max, List, [], ◌∷◌, ◌++◌, None, length, get_or, arith, refl, ap, sym, subst, inl, inr, ⊎_elim, ◌∙◌}
 use Rattle.std.specs.Prelude.{Contains, flat_map}
 use Rattle.std.specs.List.{zip}
@@ -15,12 +15,12 @@ use Rattle.ng_terms.specs.declared.plan.Op.{Op}
 use Rattle.ng_terms.specs.declared.plan.Op.TheVariants.{Make, Free, Move}
 use Rattle.ng_terms.specs.declared.plan.Plan.{Plan}
 use Rattle.ng_terms.specs.declared.reply.Reply.{Reply}
-use Rattle.ng_terms.specs.Accounts.{Asks, IsAsked, IsMostBound, pages_for}
+use Rattle.ng_terms.specs.Accounts.{Asks, IsAsked}
 use Rattle.ng_terms.specs.Calls.{calls_of, calls_of_log, size_of}
 use Rattle.ng_terms.specs.Heap.{large}
 use Rattle.ng_replay.specs.Books.{AreBooks, hand_at}
 use Rattle.ng_replay.specs.Serial.{done_in}
-use Rattle.ng_replay.specs.Serving.{MostFor, plain}
+use Rattle.ng_replay.specs.Serving.{IsCapOf, plain}
 
 -- the ops beside the replies, one reply on
 zip-push : {X Y : Type 0} → (xs : List X) (ys : List Y) (d : X) (y : Y) → length ys < length xs
@@ -89,24 +89,14 @@ AreBooks-more plan replies hands log hand reply logs within left books number gr
         ∙ books.each other below
         ∙ ap (calls_of_log plain (get_or plan.logs other [])) (sym (get_or-set_other replies log other row [] apart))
 
--- the most refused pages, one op on
-pub IsMostBound-more : (plan : Plan) (place : Place) (before between now : ℕ) → IsIn plan place → IsMostBound plan plain before between
-    → MostFor between now (size_of (op_in plan place)) → IsMostBound plan plain before now
-IsMostBound-more plan place before between now inside so_far one = ⊎_elim group block one
+-- no op of the plan asks for more than its cap, but for what is too large
+pub cap-op : (plan : Plan) (place : Place) (cap : ℕ) → IsIn plan place → IsCapOf cap plan → size_of (op_in plan place) < large → size_of (op_in plan place) ≤ cap
+cap-op plan place cap inside cap_of = by_op (op_in plan place) refl
   where
-    group : now ≤ max between 512 → IsMostBound plan plain before now
-    group most = ⊎_elim (λ was. inl (omega arith)) kept so_far
-      where
-        kept : (bytes : ℕ) × IsAsked plan plain bytes × (between ≤ pages_for bytes) → IsMostBound plan plain before now
-        kept (bytes, asked, was) = ⊎_elim (λ low. inl (omega arith)) (λ high. inr (bytes, asked, omega arith)) (cases_lt now 513)
-
     asked : (op : Op) → op_in plan place ≡ op → Asks plain op (size_of op) → size_of op < large → IsAsked plan plain (size_of op)
     asked op is asks small = record { log = place.log; op = op; there = subst (Contains (get_or plan.logs place.log [])) is (Contains-get_or (get_or plan.logs place.log []) place.op (Make 0 0 None) inside.op); asks = asks; small = small }
 
-    by_op : (op : Op) → op_in plan place ≡ op → size_of op < large → now ≤ pages_for (size_of op) → IsMostBound plan plain before now
-    by_op (Make name size to) is small most = inr (size, asked (Make name size to) is (inl refl) small, most)
-    by_op (Free name origin) is small most = inl (omega arith)
-    by_op (Move old name origin size to) is small most = inr (size, asked (Move old name origin size to) is (inl refl) small, most)
-
-    block : (size_of (op_in plan place) < large) × (now ≤ pages_for (size_of (op_in plan place))) → IsMostBound plan plain before now
-    block (small, most) = by_op (op_in plan place) refl small most
+    by_op : (op : Op) → op_in plan place ≡ op → size_of op < large → size_of op ≤ cap
+    by_op (Make name size to) is small = cap_of size (asked (Make name size to) is (inl refl) small)
+    by_op (Free name origin) is small = omega arith
+    by_op (Move old name origin size to) is small = cap_of size (asked (Move old name origin size to) is (inl refl) small)

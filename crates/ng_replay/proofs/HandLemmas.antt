@@ -41,13 +41,13 @@ Among-at (x ∷ xs) zero d below = inl refl
 Among-at (x ∷ xs) (suc i) d below = inr (Among-at xs i d (omega arith))
 
 -- the logs' hands are all that were split off
-pub AreAll-books : (lock : View) (plan : Plan) (replies : List (List Reply)) (hands : List Caller) → lock.desk.next ≡ 1 + length plan.logs
-    → AreBooks plan replies hands → AreAll lock hands
-AreAll-books lock plan replies hands next books = record {
-  count = omega (arith, books.count);
+pub AreAll-books : (count : ℕ) (plan : Plan) (replies : List (List Reply)) (hands : List Caller) → length plan.logs ≡ count
+    → AreBooks plan replies hands → AreAll count hands
+AreAll-books count plan replies hands all books = record {
+  many = books.count ∙ all;
   each = λ number some below.
       let at : number - 1 + 1 ≡ number = omega arith in
-      (hand_at hands (number - 1), Among-at hands (number - 1) (fresh_caller 0 0) (omega (arith, books.count)), books.numbers (number - 1) (omega arith) ∙ at);
+      (hand_at hands (number - 1), Among-at hands (number - 1) (fresh_caller 0 0) (omega (arith, books.count, all)), books.numbers (number - 1) (omega (arith, all)) ∙ at);
 }
 
 -- hands that have done nothing yet

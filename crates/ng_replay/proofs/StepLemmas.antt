@@ -18,9 +18,9 @@ use Rattle.ng_terms.specs.declared.reply.Reply.{Reply}
 use Rattle.ng_terms.specs.Calls.{FitsOp, calls_of, handed_as, origin_of, size_of}
 use Rattle.ng_replay.specs.Books.{hand_at}
 use Rattle.ng_replay.specs.Room.{HaveRoom}
-use Rattle.ng_replay.specs.Serial.{AreHeld, AreInHand, AreServed, IsNumberIn, IsVacant, KeepsBalance, KeepsMostBound, at_of_parcel, blocks_in, handed_after, handed_in, handed_without, held_in, places_of, replies_in, row_after, source_at, source_with}
-use Rattle.ng_replay.specs.Serving.{MostFor, at_of, plain}
-use Rattle.ng_replay.proofs.BookLemmas.{IsMostBound-more}
+use Rattle.ng_replay.specs.Serial.{AreHeld, AreInHand, AreServed, IsNumberIn, IsVacant, KeepsBalance, at_of_parcel, blocks_in, handed_after, handed_in, handed_without, held_in, places_of, replies_in, row_after, source_at, source_with}
+use Rattle.ng_replay.specs.Serving.{IsCapOf, at_of, plain}
+use Rattle.ng_replay.proofs.BookLemmas.{cap-op}
 use Rattle.ng_replay.proofs.HandLemmas.{AreInHand-more}
 use Rattle.ng_replay.proofs.RowLemmas.{get_or-there}
 use Rattle.ng_replay.proofs.ServedLemmas.{AreServed-more, next-left, next-vacant, next_place}
@@ -100,8 +100,8 @@ module _ {plan : Plan} {turn log : ℕ} {rows : List (Vec Reply)} {row : Vec Rep
   pub row-room : HaveRoom plan.logs rows → length row.items < vec_capacity row
   row-room room = omega (arith, op-left, room log row row-in, ap vec_capacity this.row_is)
 
-  pub most-kept : (from to : ℕ) → MostFor from to (size_of op) → KeepsMostBound plan from to
-  most-kept from to most first so_far = IsMostBound-more plan place first from to place_in so_far (subst (λ (o : Op). MostFor from to (size_of o)) op_same most)
+  pub cap-kept : (cap : ℕ) → IsCapOf cap plan → size_of op < large → size_of op ≤ cap
+  cap-kept cap cap_of = subst (λ (o : Op). size_of o < large → size_of o ≤ cap) (sym op_same) (cap-op plan place cap place_in cap_of)
 
   replies_same : (more : Vec Reply) (reply : Reply) → more.items ≡ row.items ++ reply ∷ []
       → replies_in (set rows log more) ≡ set (replies_in rows) log (get_or (replies_in rows) log [] ++ reply ∷ [])

@@ -164,7 +164,3 @@ pub record AreInHand (plan : Plan) (replies : List (List Reply)) (blocks : List 
   pub held : (log : ℕ) → log < length plan.logs → AreHeld (hand_at hands log) (slice_index_or blocks log [])
   pub framed : AreAllFramed hands
   pub balanced : IsBalanced hands parcels
-
--- the most refused pages rose for no more than the plan's ops can need
-abbrev pub KeepsMostBound : Plan → ℕ → ℕ → Type 0
-KeepsMostBound plan before now = (first : ℕ) → IsMostBound plan plain first before → IsMostBound plan plain first now

@@ -1,19 +1,19 @@
 -- What a heap's calls enter, and which blocks live after them.
-use Rattle.std.specs.Prelude.{◌⊎◌, ℕ, ◌<◌, ◌≤◌, max, false, Option, Some, None}
+use Rattle.std.specs.Prelude.{ℕ, ◌≤◌, false, Option, Some, None}
 use Rattle.ng_group.specs.Hands.{IsApart}
 use Rattle.ng_mapper.specs.declared.refusals.Refusals.{Refusals}
 use Rattle.ng_space.specs.Blocks.{BlockToken}
 use Rattle.ng_terms.specs.declared.reply.Mode.{Mode}
-use Rattle.ng_terms.specs.Accounts.{Counts, pages_for}
-use Rattle.ng_terms.specs.Heap.{large}
+use Rattle.ng_terms.specs.declared.plan.Plan.{Plan}
+use Rattle.ng_terms.specs.Accounts.{Counts, IsAsked}
 
 -- blocks are made with the common alignment, and their bytes aren't set
 abbrev pub plain : Mode
 plain = record { align = None; zero = false }
 
--- the most refused pages rose for no more than a group, or a block of so many bytes, can need
-abbrev pub MostFor : ℕ → ℕ → ℕ → Type 0
-MostFor before now bytes = (now ≤ max before 512) ⊎ ((bytes < large) × (now ≤ pages_for bytes))
+-- no op of the plan asks for more bytes than the cap, but for those that are too large
+abbrev pub IsCapOf : ℕ → Plan → Type 0
+IsCapOf cap plan = (bytes : ℕ) → IsAsked plan plain bytes → bytes ≤ cap
 
 -- what an account needs of a mapper's refusals
 abbrev pub counts_of : Refusals → Counts

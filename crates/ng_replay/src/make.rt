@@ -1,10 +1,10 @@
-ghost use Rattle.std.specs.Prelude.{◌≡◌, ◌+◌, ◌≤◌, ◌++◌, IfSome};
+ghost use Rattle.std.specs.Prelude.{◌≡◌, ◌+◌, ◌<◌, ◌≤◌, ◌++◌, IfSome};
 ghost use Rattle.ng_frame.specs.Keeps.{KeepsRest, KeepsSlots};
-ghost use Rattle.ng_group.specs.Steps.{GoesOn};
 ghost use Rattle.ng_heap.specs.Keeps.{IsFresh, KeepsFrames};
-ghost use Rattle.ng_replay.specs.Serving.{MostFor, at_of, plain};
+ghost use Rattle.ng_replay.specs.Serving.{at_of, plain};
 ghost use Rattle.ng_space.specs.Blocks.{HasFramed};
 ghost use Rattle.ng_terms.specs.Calls.{FitsMade, calls_of_make, reply_of, standing};
+ghost use Rattle.ng_terms.specs.Heap.{large};
 
 use ng_group::Core;
 use ng_heap::{AllocRefusal, Heap};
@@ -21,18 +21,17 @@ pub fn make<N: Name, M: Mapper, P: Rules>(
     size: u64,
 ) -> (Made, Option<Block<N>>)
     requires spare { 1 ≤ hand.old.spare }
+    requires cap { size < large → size ≤ N.facts.start.cap }
     ensures fits { FitsMade plain size result.0 }
     ensures entries { hand.new.entries ≡ hand.old.entries ++ calls_of_make plain size result.0 }
     ensures stands { at_of result.1 ≡ standing (reply_of result.0) }
     ensures framed { IfSome result.1 (HasFramed hand.new) }
     ensures fresh { IfSome result.1 (λ block. IsFresh hand.old block.slot) }
-    ensures most { MostFor (M.refused core.old.mapper).most (M.refused core.new.mapper).most size }
 
     ensures slots { KeepsSlots hand.old.view hand.new.view }
     ensures frames { KeepsFrames hand.old hand.new }
     ensures rest { KeepsRest hand.old.view hand.new.view }
     ensures spare { hand.new.spare + 1 ≡ hand.old.spare }
-    ensures on { GoesOn core.old.seat core.new.seat }
 {
     match heap.malloc_in(core, hand, size) {
         Ok(block) => (Made::Given { at: block.at() }, Some(block)),

@@ -1,11 +1,11 @@
-ghost use Rattle.std.specs.Prelude.{◌≡◌, ◌+◌, ◌≤◌, ◌++◌, ◌∷◌, [], IfSome, None};
+ghost use Rattle.std.specs.Prelude.{◌≡◌, ◌+◌, ◌<◌, ◌≤◌, ◌++◌, ◌∷◌, [], IfSome, None};
 ghost use Rattle.ng_frame.specs.Keeps.{KeepsOthers, KeepsRest, KeepsSlots};
 ghost use Rattle.ng_group.specs.Hands.{IsApart};
-ghost use Rattle.ng_group.specs.Steps.{GoesOn};
 ghost use Rattle.ng_heap.specs.Keeps.{IsFresh, KeepsFrames};
-ghost use Rattle.ng_replay.specs.Serving.{IsApartFrom, MostFor, at_of, plain};
+ghost use Rattle.ng_replay.specs.Serving.{IsApartFrom, at_of, plain};
 ghost use Rattle.ng_space.specs.Blocks.{BlockToken, HasFramed};
 ghost use Rattle.ng_terms.specs.Calls.{FitsMade, FitsMoved, FitsOp, calls_for, calls_of, reply_of, reply_of_free, size_of, standing};
+ghost use Rattle.ng_terms.specs.Heap.{large};
 ghost use Rattle.ng_terms.specs.declared.entry.Entry.TheVariants.{Take};
 
 use crate::make::make;
@@ -26,12 +26,12 @@ pub fn do_op<N: Name, M: Mapper, P: Rules>(
     source: Option<Block<N>>,
 ) -> (Reply, Option<Block<N>>)
     requires room { 2 ≤ hand.old.spare }
+    requires cap { size_of op.now < large → size_of op.now ≤ N.facts.start.cap }
     requires framed { IfSome source (HasFramed hand.old) }
     ensures fits { FitsOp plain (at_of source) op.now result.0 }
     ensures entries { hand.new.entries ≡ hand.old.entries ++ calls_of plain op.now result.0 }
     ensures stands { at_of result.1 ≡ standing result.0 }
     ensures framed { IfSome result.1 (HasFramed hand.new) }
-    ensures most { MostFor (M.refused core.old.mapper).most (M.refused core.new.mapper).most (size_of op.now) }
 
     // The other blocks of the hand stay, and the block that stands now is apart from them.
     ensures others { (other : BlockToken) → IsApartFrom source other → HasFramed hand.old other → HasFramed hand.new other }
@@ -40,7 +40,6 @@ pub fn do_op<N: Name, M: Mapper, P: Rules>(
     ensures frames { KeepsFrames hand.old hand.new }
     ensures rest { KeepsRest hand.old.view hand.new.view }
     ensures spare { hand.old.spare ≤ hand.new.spare + 2 }
-    ensures on { GoesOn core.old.seat core.new.seat }
 {
     match *op {
         Op::Make {
@@ -91,18 +90,17 @@ fn make_anew<N: Name, M: Mapper, P: Rules>(
     size: u64,
 ) -> (Reply, Option<Block<N>>)
     requires spare { 1 ≤ hand.old.spare }
+    requires cap { size < large → size ≤ N.facts.start.cap }
     ensures fits { (made : Made) × (result.0 ≡ reply_of made) × FitsMade plain size made }
     ensures entries { hand.new.entries ≡ hand.old.entries ++ calls_for plain size result.0 }
     ensures stands { at_of result.1 ≡ standing result.0 }
     ensures framed { IfSome result.1 (HasFramed hand.new) }
     ensures fresh { IfSome result.1 (λ block. IsFresh hand.old block.slot) }
-    ensures most { MostFor (M.refused core.old.mapper).most (M.refused core.new.mapper).most size }
 
     ensures slots { KeepsSlots hand.old.view hand.new.view }
     ensures frames { KeepsFrames hand.old hand.new }
     ensures rest { KeepsRest hand.old.view hand.new.view }
     ensures spare { hand.new.spare + 1 ≡ hand.old.spare }
-    ensures on { GoesOn core.old.seat core.new.seat }
 {
     let (made, block) = make(heap, core, hand, size);
     (reply_to_make(made), block)
@@ -133,13 +131,11 @@ fn free<N: Name, M: Mapper, P: Rules>(
     ensures fits { result ≡ reply_of_free from (at_of source) }
     ensures entries { hand.new.entries ≡ hand.old.entries ++ calls_for plain 0 result }
     ensures stands { standing result ≡ None }
-    ensures calm { M.refused core.new.mapper ≡ M.refused core.old.mapper }
 
     ensures others { (other : BlockToken) → IsApartFrom source other → HasFramed hand.old other → HasFramed hand.new other }
     ensures frames { KeepsFrames hand.old hand.new }
     ensures rest { KeepsRest hand.old.view hand.new.view }
     ensures spare { hand.old.spare ≤ hand.new.spare + 1 }
-    ensures on { GoesOn core.old.seat core.new.seat }
 {
     if from == Origin::Skip {
         leave(hand, source);
@@ -165,13 +161,11 @@ fn free_framed<N: Name, M: Mapper, P: Rules>(
     requires room { 1 ≤ hand.old.spare }
     requires framed { HasFramed hand.old block }
     ensures taken { hand.new.entries ≡ hand.old.entries ++ Take block.at ∷ [] }
-    ensures calm { M.refused core.new.mapper ≡ M.refused core.old.mapper }
 
     ensures others { KeepsOthers block.slot hand.old.view hand.new.view }
     ensures frames { KeepsFrames hand.old hand.new }
     ensures rest { KeepsRest hand.old.view hand.new.view }
     ensures spare { hand.new.spare + 1 ≡ hand.old.spare }
-    ensures on { GoesOn core.old.seat core.new.seat }
 {
     match heap.free_in(core, hand, block) {
         Ok(()) => {}
@@ -188,12 +182,12 @@ fn move_from<N: Name, M: Mapper, P: Rules>(
     size: u64,
 ) -> (Reply, Option<Block<N>>)
     requires room { 2 ≤ hand.old.spare }
+    requires cap { size < large → size ≤ N.facts.start.cap }
     requires framed { HasFramed hand.old old }
     ensures fits { FitsMoved old.at size result.0 }
     ensures entries { hand.new.entries ≡ hand.old.entries ++ calls_for plain size result.0 }
     ensures stands { at_of result.1 ≡ standing result.0 }
     ensures framed { IfSome result.1 (HasFramed hand.new) }
-    ensures most { MostFor (M.refused core.old.mapper).most (M.refused core.new.mapper).most size }
 
     ensures others { (other : BlockToken) → IsApart other.slot old.slot → HasFramed hand.old other → HasFramed hand.new other }
     ensures apart { (other : BlockToken) → IsApart other.slot old.slot → HasFramed hand.old other → IsApartFrom result.1 other }
@@ -201,7 +195,6 @@ fn move_from<N: Name, M: Mapper, P: Rules>(
     ensures frames { KeepsFrames hand.old hand.new }
     ensures rest { KeepsRest hand.old.view hand.new.view }
     ensures spare { hand.old.spare ≤ hand.new.spare + 2 }
-    ensures on { GoesOn core.old.seat core.new.seat }
 {
     let at = old.at();
     match heap.malloc_in(core, hand, size) {

@@ -1,15 +1,14 @@
 ghost use Rattle.std.specs.Prelude.{◌≡◌, ◌+◌, ◌<◌, ◌≤◌, ◌++◌, ℕ, [], length, Some, vec_capacity};
-ghost use Rattle.ng_group.specs.Steps.{GoesOn};
 ghost use Rattle.ng_heap.specs.Keeps.{KeepsFrames};
 ghost use Rattle.ng_plan.specs.Sound.{IsSound};
 ghost use Rattle.ng_replay.specs.Books.{AreAllFramed, AreBooks, rooms_for};
 ghost use Rattle.ng_replay.specs.Room.{HasRoom, HaveRoom};
-ghost use Rattle.ng_replay.specs.Serial.{AreHeld, AreInHand, AreServed, IsNumberIn, IsVacant, KeepsBalance, KeepsMostBound, blocks_in, handed_after, handed_in, handed_without, held_in, places_of, replies_in, row_after, source_with};
-ghost use Rattle.ng_replay.specs.Serving.{MostFor, plain};
+ghost use Rattle.ng_replay.specs.Serial.{AreHeld, AreInHand, AreServed, IsNumberIn, IsVacant, KeepsBalance, blocks_in, handed_after, handed_in, handed_without, held_in, places_of, replies_in, row_after, source_with};
+ghost use Rattle.ng_replay.specs.Serving.{IsCapOf, plain};
 ghost use Rattle.ng_space.specs.Callers.{fresh_callers};
 ghost use Rattle.ng_space.specs.Closings.{AreAll, IsEven};
-ghost use Rattle.ng_terms.specs.Accounts.{IsMostBound};
 ghost use Rattle.ng_terms.specs.Calls.{Fits, FitsOp, calls_of, handed_as, origin_of, size_of};
+ghost use Rattle.ng_terms.specs.Heap.{large};
 ghost use Rattle.ng_terms.specs.declared.plan.Origin.TheVariants.{Own, Claim};
 
 use crate::op::do_op;
@@ -33,15 +32,15 @@ pub fn serial<N: Name, M: Mapper, P: Rules>(
 ) -> Vec<Items<Reply>>
     requires sound { IsSound plan.now }
     requires hands { hands.old.items ≡ fresh_callers 1 (rooms_for plan.now) }
-    requires next { core.old.seat.desk.next ≡ 1 + length plan.now.logs }
+    requires all { length plan.now.logs ≡ N.facts.hands }
+    requires cap { IsCapOf N.facts.start.cap plan.now }
     requires room { HasRoom room plan.now }
 
     ensures fits { Fits plan.now plain result.items }
     ensures books { AreBooks plan.now result.items hands.new.items }
     ensures framed { AreAllFramed hands.new.items }
-    ensures all { AreAll core.new.seat hands.new.items }
+    ensures all { AreAll N.facts.hands hands.new.items }
     ensures even { IsEven hands.new.items }
-    ensures most { IsMostBound plan.now plain (M.refused core.old.mapper).most (M.refused core.new.mapper).most }
 {
     let Room {
         mut rows,
@@ -78,6 +77,7 @@ fn serve<N: Name, M: Mapper, P: Rules>(
     parcels: &mut [Option<Parcel<N>>],
 )
     requires sound { IsSound plan.now }
+    requires cap { IsCapOf N.facts.start.cap plan.now }
     requires turn { turn < length plan.now.order }
     requires room { HaveRoom plan.now.logs rows.old.items }
     requires room_for_blocks { HaveRoom plan.now.logs blocks.old.items }
@@ -88,8 +88,6 @@ fn serve<N: Name, M: Mapper, P: Rules>(
     ensures room_for_blocks { HaveRoom plan.now.logs blocks.new.items }
     ensures served { AreServed plan.now (turn + 1) (replies_in rows.new.items) (held_in (blocks_in blocks.new.items)) (handed_in parcels.new) }
     ensures hands { AreInHand plan.now (replies_in rows.new.items) (blocks_in blocks.new.items) parcels.new hands.new.items }
-    ensures most { KeepsMostBound plan.now (M.refused core.old.mapper).most (M.refused core.new.mapper).most }
-    ensures next { core.new.seat.desk.next ≡ core.old.seat.desk.next }
 {
     let log = plan.order.as_slice()[turn] as usize;
     let ops = &plan.logs.as_slice()[log];
@@ -115,6 +113,7 @@ fn serve_op<N: Name, M: Mapper, P: Rules>(
     requires vacant { IsVacant (handed_as op.now) (handed_without (origin_of op.now) (handed_in parcels.old)) }
     requires room { length row.old.items < vec_capacity row.old }
     requires spare { 2 ≤ hand.old.spare }
+    requires cap { size_of op.now < large → size_of op.now ≤ N.facts.start.cap }
     requires held { AreHeld hand.old row.old.items }
 
     ensures fits { FitsOp plain (source_with (places_of row.old.items) (handed_in parcels.old) (origin_of op.now)) op.now result }
@@ -122,13 +121,11 @@ fn serve_op<N: Name, M: Mapper, P: Rules>(
     ensures handed { handed_in parcels.new ≡ handed_after op.now result (handed_in parcels.old) }
     ensures held { AreHeld hand.new row.new.items }
     ensures room { vec_capacity row.new ≡ vec_capacity row.old }
-    ensures most { MostFor (M.refused core.old.mapper).most (M.refused core.new.mapper).most (size_of op.now) }
 
     ensures entries { hand.new.entries ≡ hand.old.entries ++ calls_of plain op.now result }
     ensures spare { hand.old.spare ≤ hand.new.spare + 2 }
     ensures balance { KeepsBalance hand.old hand.new parcels.old parcels.new }
     ensures frames { KeepsFrames hand.old hand.new }
-    ensures on { GoesOn core.old.seat core.new.seat }
 {
     let source = take_source(heap, hand, op, row.as_mut_slice(), parcels);
     let (reply, block) = do_op(heap, core, hand, op, source);

@@ -9,7 +9,6 @@ use Rattle.ng_view.specs.Lists.{count_of}
 use Rattle.ng_view.specs.Places.{stride, units}
 use Rattle.ng_view.specs.Slots.{IsPlain}
 use Rattle.ng_view.specs.declared.view.Group.{Group}
-use Rattle.ng_space_tests.specs.Nests.{outer_group}
 use Rattle.ng_space_tests.specs.Race.{race_group}
 use Rattle.ng_space_tests.specs.Trials.{FillsPage, page_group}
 
@@ -43,31 +42,6 @@ pair_fills = record {
   fits = (let s = pair-stride in let r : stride pair_group * 2 ≡ 4064 = ap (λ n. n * 2) s in omega arith);
   large = (let u = pair-units in omega arith);
   masks = record { small = omega arith; apart = pair-bits; plain = λ i lt some_bit. pair-plain };
-}
-
--- ---- five slots, of which none is in the mask
-pub outer-stride : stride outer_group ≡ 496
-unfolding stride slot.stride_of class.unit_table
-outer-stride = refl
-
-pub outer-units : units 16 ≡ 31
-unfolding class.unit_table
-outer-units = refl
-
-outer-plain : IsPlain outer_group
-outer-plain = record { small = omega arith; wide = (let u = outer-units in let s = outer-stride in omega arith) }
-
-pub no-bits : (i n : ℕ) → bit_at 0 i + bit_at 0 i ≤ n
-no-bits i n = let b = bit_at-zero i in let x : ℕ = bit_at 0 i in let e : x ≡ 0 = b in omega (arith, e)
-
-pub outer_fills : FillsPage 15 4 0
-outer_fills = record {
-  low = omega arith;
-  few = omega arith;
-  kind = inl (record { low = omega arith; fits = (let u = outer-units in omega arith) });
-  fits = (let s = outer-stride in let r : stride outer_group * 5 ≡ 2480 = ap (λ n. n * 5) s in omega arith);
-  large = (let u = outer-units in omega arith);
-  masks = record { small = omega arith; apart = λ i lt. no-bits i _; plain = λ i lt some_bit. outer-plain };
 }
 
 -- ---- sixteen slots, which are all in the mask

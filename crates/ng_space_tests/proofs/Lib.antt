@@ -3,8 +3,6 @@ pub mod Groups
 pub mod Pages
 pub mod Endings
 pub mod Partings
-pub mod Carrying
-pub mod Ending
 pub mod Race
 pub mod Writing
 pub mod Bare

@@ -1,8 +1,6 @@
-//! Tests of the space's calls together: groups that come to live, nest, end, and are raced for by threads. The crate has no other code.
+//! Tests of the space's calls together: a group that comes to live and ends, and one that threads race for. The crate has no other code.
 #![tactic(auto)]
 
-#[cfg(test)]
-mod nest_tests;
 #[cfg(test)]
 mod page;
 #[cfg(test)]

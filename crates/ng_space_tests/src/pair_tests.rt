@@ -35,6 +35,7 @@ fn live_once<N: Name, R: Abort>(rt: &R, alloc: Global, blank: Blank) -> Result<(
     requires start { blank.start ≡ N.facts.start }
     requires trial { blank.start ≡ trial_start }
     requires rooms { blank.rooms ≡ 4 ∷ [] }
+    requires hands { N.facts.hands ≡ 1 }
 {
     let (space, mut lock, mut hands) = Space::<N>::open(alloc, blank)?;
     make_area(&space, &mut lock);

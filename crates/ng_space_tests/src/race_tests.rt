@@ -124,6 +124,7 @@ fn race<N: Name + Send + Sync, R: Threads + Abort + Sync>(
     requires start { blank.start ≡ N.facts.start }
     requires trial { blank.start ≡ trial_start }
     requires rooms { blank.rooms ≡ 0 ∷ [] }
+    requires hands { N.facts.hands ≡ 1 }
 {
     let (space, mut lock, mut hands) = Space::<N>::open(alloc, blank)?;
     make_area(&space, &mut lock);

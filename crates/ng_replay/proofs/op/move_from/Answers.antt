@@ -1,5 +1,4 @@
 use Rattle.ng_frame.proofs.Keeps.{rest_then}
-use Rattle.ng_group.proofs.WorkingLemmas.{goes_then}
 use Rattle.ng_replay.proofs.MoveLemmas.{HasFramed-beside, HasFramed-kept, IsApart-flip, KeepsFrames-then, entries-moved}
 use Rattle.ng_replay.proofs.op.move_from.Goals as goal
 
@@ -30,9 +29,6 @@ returns-in-Ok-clause-frames g c = KeepsFrames-then _ _ _ c.malloc_in.ensures.fra
 
 pub returns-in-Ok-clause-rest : goal.returns-in-Ok-clause-rest
 returns-in-Ok-clause-rest g c = rest_then _ _ _ c.malloc_in.ensures.rest c.free_framed.ensures.rest
-
-pub returns-in-Ok-clause-on : goal.returns-in-Ok-clause-on
-returns-in-Ok-clause-on g c = goes_then _ _ _ c.malloc_in.ensures.on c.free_framed.ensures.on
 
 pub returns-in-Err-NoMemory-clause-framed : goal.returns-in-Err-NoMemory-clause-framed
 returns-in-Err-NoMemory-clause-framed g c =

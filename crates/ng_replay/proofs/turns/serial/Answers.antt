@@ -1,4 +1,4 @@
-use Rattle.std.proofs.Common.{arith, inl, ◌∙◌}
+use Rattle.std.proofs.Common.{arith}
 use Rattle.ng_replay.proofs.HandLemmas.{AreAll-books, IsEven-balanced}
 use Rattle.ng_replay.proofs.OpLemmas.{written_back}
 use Rattle.ng_replay.proofs.ServedLemmas.{Fits-served}
@@ -11,8 +11,6 @@ loop-turn-init g c = record {
   room_for_blocks = c.requires.room.rows_of_blocks;
   served = AreServed-first c.args.plan.now c.requires.sound c.args.room.rows.items c.args.room.blocks.items c.args.room.parcels.items c.requires.room.logs c.requires.room.empty c.requires.room.blocks c.requires.room.no_blocks c.requires.room.parcels;
   hands = AreInHand-first c.args.plan.now c.args.room.rows.items c.args.room.blocks.items c.args.room.parcels.items c.args.hands.now.items c.requires.room.empty c.requires.room.no_blocks c.requires.room.parcels c.requires.hands;
-  most = inl (omega arith);
-  next = c.requires.next;
 }
 
 pub loop-turn-preserved : goal.loop-turn-preserved
@@ -21,8 +19,6 @@ loop-turn-preserved g c = record {
   room_for_blocks = c.serve.ensures.room_for_blocks;
   served = rw (written_back c.serve.new.parcels c.as_mut_slice.result.now c.loop-turn.parcels.items _ c.serve.auto.parcels c.as_mut_slice.ensures.value c.as_mut_slice.ensures.len) c.serve.ensures.served;
   hands = rw (written_back c.serve.new.parcels c.as_mut_slice.result.now c.loop-turn.parcels.items _ c.serve.auto.parcels c.as_mut_slice.ensures.value c.as_mut_slice.ensures.len) c.serve.ensures.hands;
-  most = c.serve.ensures.most _ c.loop-turn.invariant.most;
-  next = c.serve.ensures.next ∙ c.loop-turn.invariant.next;
 }
 
 pub end_parcels-requires : goal.end_parcels-requires
@@ -38,7 +34,7 @@ pub returns-clause-framed : goal.returns-clause-framed
 returns-clause-framed g c = rw c.leave_blocks.ensures c.loop-turn.invariant.hands.framed
 
 pub returns-clause-all : goal.returns-clause-all
-returns-clause-all g c = rw c.leave_blocks.ensures (AreAll-books _ c.args.plan.now _ _ c.loop-turn.invariant.next c.loop-turn.invariant.hands.books)
+returns-clause-all g c = rw c.leave_blocks.ensures (AreAll-books _ c.args.plan.now _ _ c.requires.all c.loop-turn.invariant.hands.books)
 
 pub returns-clause-even : goal.returns-clause-even
 returns-clause-even g c =

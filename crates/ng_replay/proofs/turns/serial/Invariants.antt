@@ -1,8 +1,5 @@
-use Rattle.std.proofs.Common.{◌≡◌, ◌+◌, length}
-use Rattle.ng_terms.specs.Accounts.{IsMostBound}
 use Rattle.ng_replay.specs.Room.{HaveRoom}
 use Rattle.ng_replay.specs.Serial.{AreInHand, AreServed, blocks_in, handed_in, held_in, replies_in}
-use Rattle.ng_replay.specs.Serving.{plain}
 use Rattle.ng_replay.proofs.turns.serial.Given as goal
 
 abbrev pub invariant-loop-turn : goal.invariant-loop-turn
@@ -11,6 +8,4 @@ invariant-loop-turn g l = record {
   room_for_blocks : HaveRoom l.plan.logs l.blocks.items;
   served : AreServed l.plan l.turn (replies_in l.rows.items) (held_in (blocks_in l.blocks.items)) (handed_in l.parcels.items);
   hands : AreInHand l.plan (replies_in l.rows.items) (blocks_in l.blocks.items) l.parcels.items l.hands.items;
-  most : IsMostBound l.plan plain (g.M.Mapper.refused l.initial.core.mapper).most (g.M.Mapper.refused l.core.mapper).most;
-  next : l.core.seat.desk.next ≡ 1 + length l.plan.logs;
 }

@@ -1,5 +1,5 @@
 use Rattle.std.proofs.Common.{ap, arith, length, ◌∙◌}
-use Rattle.ng_replay.proofs.StepLemmas.{IsTurnOf, claim-numbered, handed-numbered, hands-more, mine-held, mine-room, most-kept, op-left, own-earlier, row-room, served-more, turn-of, turn-ops, two-spare, vacant}
+use Rattle.ng_replay.proofs.StepLemmas.{IsTurnOf, claim-numbered, handed-numbered, hands-more, mine-held, mine-room, cap-kept, op-left, own-earlier, row-room, served-more, turn-of, turn-ops, two-spare, vacant}
 use Rattle.ng_replay.proofs.turns.serve.Goals as goal
 
 pub bounds-as_slice-replies : goal.bounds-as_slice-replies
@@ -73,8 +73,8 @@ returns-clause-hands g c =
     c.requires.sound c.requires.turn c.as_slice.ensures c.as_slice-2.ensures c.index-as_slice-log.is c.index_mut-row.ensures.value c.as_slice-3.ensures (ap length c.as_slice-replies.ensures.value) in
     hands-more c.args.blocks.now.items c.args.parcels.now c.requires.sound this c.requires.served c.index_mut-2.ensures.value c.index_mut.ensures.value c.requires.hands _ _ _ _ _ c.push_reserved.ensures.items c.serve_op-reply.ensures.frames c.serve_op-reply.ensures.entries c.serve_op-reply.ensures.spare c.serve_op-reply.ensures.held c.serve_op-reply.ensures.balance
 
-pub returns-clause-most : goal.returns-clause-most
-returns-clause-most g c =
+pub serve_op-reply-requires-clause-cap : goal.serve_op-reply-requires-clause-cap
+serve_op-reply-requires-clause-cap g c =
     let this : IsTurnOf c.args.plan.now c.args.turn c.args.rows.now.items _ c.index_mut-row.result.now _ = turn-of c.as_slice.result.now c.as_slice-2.result.now c.index-as_slice-log.result c.as_slice-3.result.now (length c.as_slice-replies.result.now)
     c.requires.sound c.requires.turn c.as_slice.ensures c.as_slice-2.ensures c.index-as_slice-log.is c.index_mut-row.ensures.value c.as_slice-3.ensures (ap length c.as_slice-replies.ensures.value) in
-    most-kept c.args.blocks.now.items c.args.parcels.now c.requires.sound this c.requires.served _ _ c.serve_op-reply.ensures.most
+    cap-kept c.args.blocks.now.items c.args.parcels.now c.requires.sound this c.requires.served _ c.requires.cap

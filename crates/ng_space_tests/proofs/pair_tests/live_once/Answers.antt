@@ -9,7 +9,7 @@ use Rattle.ng_space_tests.proofs.pair_tests.live_once.Goals as goal
 pub close-image-requires-clause-all : goal.close-image-requires-clause-all
 close-image-requires-clause-all g c =
     let made = c.in_ok-space.ensures.hands ∙ ap (fresh_callers 1) c.requires.rooms in
-    all_of_one _ _ c.in_ok-space.hands.items _ c.pass_back.new.hand c.end_group.ensures.stands.next made refl
+    all_of_one _ _ c.in_ok-space.hands.items _ c.pass_back.new.hand c.requires.hands made refl
     (c.pass_back.ensures.hand.number ∙ ap (λ (h : Caller). h.number) (c.index_mut-hand.ensures.value ∙ ap (λ (hs : List Caller). get_or hs 0 c.index_mut-hand.result.now) made))
 
 pub close-image-requires-clause-blanked : goal.close-image-requires-clause-blanked

@@ -9,7 +9,7 @@ use Rattle.ng_space_tests.proofs.race_tests.race.Goals as goal
 pub close-image-requires-clause-all : goal.close-image-requires-clause-all
 close-image-requires-clause-all g c =
     let made = c.in_ok-space.ensures.hands ∙ ap (fresh_callers 1) c.requires.rooms in
-    all_of_one _ _ c.in_ok-space.hands.items _ c.gather.new.hand c.gather.ensures.serves.stands.next made refl
+    all_of_one _ _ c.in_ok-space.hands.items _ c.gather.new.hand c.requires.hands made refl
     (c.gather.ensures.hand.number ∙ c.run_both-kept.ensures.hand.number ∙ ap (λ (h : Caller). h.number) (c.index_mut-hand.ensures.value ∙ ap (λ (hs : List Caller). get_or hs 0 c.index_mut-hand.result.now) made))
 
 pub close-image-requires-clause-settled : goal.close-image-requires-clause-settled

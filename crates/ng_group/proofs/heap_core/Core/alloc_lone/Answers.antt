@@ -1,8 +1,9 @@
-use Rattle.std.proofs.Common.{ap, refl}
+use Rattle.std.proofs.Common.{ap, refl, arith}
+use Rattle.ng_terms.specs.Accounts.{pages_for}
 use Rattle.ng_view.specs.declared.view.View.{View}
 use Rattle.ng_group.specs.Hands.{GainsExcuse, GainsSlot}
 use Rattle.ng_group.proofs.AskedLemmas.{passed_leaves, passed_lone, passed_lone_cause}
-use Rattle.ng_group.proofs.CallLemmas.{Refuses, Serves, excuse_found, excuse_number, refuses_at, rests_excuse, rests_slot, serves_at, slot_found, slot_motion, slot_place, works_of}
+use Rattle.ng_group.proofs.CallLemmas.{Refuses, Serves, bounded_calm, bounded_most, excuse_found, excuse_number, refuses_at, rests_excuse, rests_slot, serves_at, slot_found, slot_motion, slot_place, works_of}
 use Rattle.ng_group.proofs.HandKeepLemmas.{apart_of, excused_blocks, excused_slots, gained_blocks, gained_slots}
 use Rattle.ng_group.proofs.HandSlotLemmas.{excused, learns_same, passed, passed_slot}
 use Rattle.ng_group.proofs.heap_core.Core.alloc_lone.Given.{Over}
@@ -26,7 +27,7 @@ slot_to_hand-requires-clause-slot g c =
 served : (g : Over) (c : goal.After-slot_to_hand g)
     → Serves g.N.Name.facts.start g.M.Mapper.span g.M.Mapper.runs g.M.Mapper.refused 63 c.args.bytes c.in-Ok.meta 0 c.args.self.now c.seat_lone.new.self
 served g c =
-    serves_at g.N.Name.facts.start g.M.Mapper.span g.M.Mapper.runs g.M.Mapper.refused 63 c.args.bytes c.in-Ok.meta 0 c.self.view_is c.self.invariant
+    serves_at g.N.Name.facts.start g.M.Mapper.span g.M.Mapper.runs g.M.Mapper.refused 63 c.args.bytes c.in-Ok.meta 0 c.self.view_is c.self.invariant.0
     c.in-Ok.ensures.working
     c.in-Ok.ensures.on
     c.in-Ok.ensures.hand
@@ -34,12 +35,14 @@ served g c =
     c.in-Ok.ensures.calm
 
 pub invariant_of-self : goal.invariant_of-self
-invariant_of-self g c =
-    rests_slot g.N.Name.facts.start g.M.Mapper.span g.M.Mapper.runs g.M.Mapper.refused (works_of c.self-inside.view_is)
-    63 c.args.bytes c.in-Ok.meta 0
-    (served g c)
-    c.slot_to_hand.new.seat
-    c.slot_to_hand.ensures.seat
+invariant_of-self g c = (
+  rests_slot g.N.Name.facts.start g.M.Mapper.span g.M.Mapper.runs g.M.Mapper.refused (works_of c.self-inside.view_is)
+      63 c.args.bytes c.in-Ok.meta 0
+      (served g c)
+      c.slot_to_hand.new.seat
+      c.slot_to_hand.ensures.seat,
+  bounded_calm g.N.Name.facts g.M.Mapper.refused (works_of c.self-inside.view_is) _ c.self.invariant.1 c.in-Ok.ensures.calm.refused,
+)
 
 gains : (g : Over) (c : goal.After-slot_to_hand g)
     → GainsSlot c.slot_to_hand.result.meta c.slot_to_hand.result.index c.args.hand.now.view c.slot_to_hand.new.hand.view
@@ -84,7 +87,7 @@ returns-in-Ok-clause-builds g c =
 -- ---- the seat passed on an excuse
 pub excuse_to_hand-requires : goal.excuse_to_hand-requires
 excuse_to_hand-requires g c =
-    let told = refuses_at g.N.Name.facts.start g.M.Mapper.span g.M.Mapper.runs g.M.Mapper.refused c.in-Err.number c.self.view_is c.self.invariant
+    let told = refuses_at g.N.Name.facts.start g.M.Mapper.span g.M.Mapper.runs g.M.Mapper.refused c.in-Err.number c.self.view_is c.self.invariant.0
     c.in-Err.ensures.working
     c.in-Err.ensures.on
     c.in-Err.ensures.hand
@@ -95,7 +98,7 @@ excuse_to_hand-requires g c =
 refuses : (g : Over) (c : goal.After-excuse_to_hand g)
     → Refuses g.N.Name.facts.start g.M.Mapper.span g.M.Mapper.runs g.M.Mapper.refused c.in-Err.number c.args.self.now c.seat_lone.new.self
 refuses g c =
-    refuses_at g.N.Name.facts.start g.M.Mapper.span g.M.Mapper.runs g.M.Mapper.refused c.in-Err.number c.self.view_is c.self.invariant
+    refuses_at g.N.Name.facts.start g.M.Mapper.span g.M.Mapper.runs g.M.Mapper.refused c.in-Err.number c.self.view_is c.self.invariant.0
     c.in-Err.ensures.working
     c.in-Err.ensures.on
     c.in-Err.ensures.hand
@@ -103,10 +106,12 @@ refuses g c =
     c.in-Err.ensures.idle
 
 pub invariant_of-self-in-Err : goal.invariant_of-self-in-Err
-invariant_of-self-in-Err g c =
-    rests_excuse g.N.Name.facts.start g.M.Mapper.span g.M.Mapper.runs g.M.Mapper.refused (works_of c.self-inside.view_is) c.in-Err.number (refuses g c)
-    c.excuse_to_hand.new.seat
-    c.excuse_to_hand.ensures.seat
+invariant_of-self-in-Err g c = (
+  rests_excuse g.N.Name.facts.start g.M.Mapper.span g.M.Mapper.runs g.M.Mapper.refused (works_of c.self-inside.view_is) c.in-Err.number (refuses g c)
+      c.excuse_to_hand.new.seat
+      c.excuse_to_hand.ensures.seat,
+  bounded_most g.N.Name.facts g.M.Mapper.refused (works_of c.self-inside.view_is) (g.M.Mapper.refused c.self.inside.works.mapper) c.self.invariant.1 (pages_for c.args.bytes) c.in-Err.ensures.most (let cap = c.requires.cap in omega arith),
+)
 
 gains-in-Err : (g : Over) (c : goal.After-excuse_to_hand g)
     → GainsExcuse c.excuse_to_hand.result.number c.args.hand.now.view c.excuse_to_hand.new.hand.view

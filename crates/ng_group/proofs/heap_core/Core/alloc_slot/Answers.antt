@@ -1,8 +1,8 @@
-use Rattle.std.proofs.Common.{ap, refl, sym, ◌∙◌}
+use Rattle.std.proofs.Common.{ap, refl, sym, ◌∙◌, arith}
 use Rattle.ng_view.specs.declared.view.View.{View}
 use Rattle.ng_group.specs.Hands.{GainsExcuse, GainsSlot}
 use Rattle.ng_group.proofs.AskedLemmas.{builds_none, passed_builds, passed_cause, passed_leaves}
-use Rattle.ng_group.proofs.CallLemmas.{Refuses, Serves, excuse_found, excuse_number, first_place, refuses_at, rests_excuse, rests_slot, serves_at, slot_found, slot_motion, slot_place, works_of}
+use Rattle.ng_group.proofs.CallLemmas.{Refuses, Serves, bounded_calm, bounded_most, excuse_found, excuse_number, first_place, refuses_at, rests_excuse, rests_slot, serves_at, slot_found, slot_motion, slot_place, works_of}
 use Rattle.ng_group.proofs.HandKeepLemmas.{apart_of, excused_blocks, excused_slots, gained_blocks, gained_slots}
 use Rattle.ng_group.proofs.HandSlotLemmas.{Tried, excused, passed, passed_slot, tried_not, tried_pop, won, won_slot}
 use Rattle.ng_group.proofs.WorkingLemmas.{goes_same}
@@ -15,7 +15,7 @@ pub pop-requires-clause-place : goal.pop-requires-clause-place
 pop-requires-clause-place g c =
     first_place g.N.Name.facts.start g.M.Mapper.span g.M.Mapper.runs g.M.Mapper.refused c.args.class c.in-Some.first
     (works_of c.self-inside.view_is)
-    c.self.invariant.working
+    c.self.invariant.0.working
     c.requires.class
     (sym c.in-Some.ensures.first)
 
@@ -68,7 +68,7 @@ served : (g : Over) (c : goal.After-slot_to_hand g)
 served g c =
     serves_at g.N.Name.facts.start g.M.Mapper.span g.M.Mapper.runs g.M.Mapper.refused c.args.class c.args.bytes c.in-Ok.meta c.in-Ok.index
     c.self.view_is
-    c.self.invariant
+    c.self.invariant.0
     c.in-Ok.ensures.working
     c.in-Ok.ensures.on
     c.in-Ok.ensures.hand
@@ -76,12 +76,14 @@ served g c =
     c.in-Ok.ensures.calm
 
 pub invariant_of-self : goal.invariant_of-self
-invariant_of-self g c =
-    rests_slot g.N.Name.facts.start g.M.Mapper.span g.M.Mapper.runs g.M.Mapper.refused (works_of c.self-inside-2.view_is)
-    c.args.class c.args.bytes c.in-Ok.meta c.in-Ok.index
-    (served g c)
-    c.slot_to_hand.new.seat
-    c.slot_to_hand.ensures.seat
+invariant_of-self g c = (
+  rests_slot g.N.Name.facts.start g.M.Mapper.span g.M.Mapper.runs g.M.Mapper.refused (works_of c.self-inside-2.view_is)
+      c.args.class c.args.bytes c.in-Ok.meta c.in-Ok.index
+      (served g c)
+      c.slot_to_hand.new.seat
+      c.slot_to_hand.ensures.seat,
+  bounded_calm g.N.Name.facts g.M.Mapper.refused (works_of c.self-inside-2.view_is) _ c.self.invariant.1 c.in-Ok.ensures.calm.refused,
+)
 
 -- what the hand's own try left
 tried : (g : Over) (c : goal.After-slot_to_hand g) → Tried c.args.hand.now c.match-first.hand
@@ -143,7 +145,7 @@ returns-in-Ok-clause-builds g c =
 -- ---- the seat passed on an excuse
 pub excuse_to_hand-requires : goal.excuse_to_hand-requires
 excuse_to_hand-requires g c =
-    let told = refuses_at g.N.Name.facts.start g.M.Mapper.span g.M.Mapper.runs g.M.Mapper.refused c.in-Err.number c.self.view_is c.self.invariant
+    let told = refuses_at g.N.Name.facts.start g.M.Mapper.span g.M.Mapper.runs g.M.Mapper.refused c.in-Err.number c.self.view_is c.self.invariant.0
     c.in-Err.ensures.working
     c.in-Err.ensures.on
     c.in-Err.ensures.hand
@@ -154,7 +156,7 @@ excuse_to_hand-requires g c =
 refuses : (g : Over) (c : goal.After-excuse_to_hand g)
     → Refuses g.N.Name.facts.start g.M.Mapper.span g.M.Mapper.runs g.M.Mapper.refused c.in-Err.number c.args.self.now c.seat_slot.new.self
 refuses g c =
-    refuses_at g.N.Name.facts.start g.M.Mapper.span g.M.Mapper.runs g.M.Mapper.refused c.in-Err.number c.self.view_is c.self.invariant
+    refuses_at g.N.Name.facts.start g.M.Mapper.span g.M.Mapper.runs g.M.Mapper.refused c.in-Err.number c.self.view_is c.self.invariant.0
     c.in-Err.ensures.working
     c.in-Err.ensures.on
     c.in-Err.ensures.hand
@@ -162,10 +164,12 @@ refuses g c =
     c.in-Err.ensures.idle
 
 pub invariant_of-self-in-Err : goal.invariant_of-self-in-Err
-invariant_of-self-in-Err g c =
-    rests_excuse g.N.Name.facts.start g.M.Mapper.span g.M.Mapper.runs g.M.Mapper.refused (works_of c.self-inside-2.view_is) c.in-Err.number (refuses g c)
-    c.excuse_to_hand.new.seat
-    c.excuse_to_hand.ensures.seat
+invariant_of-self-in-Err g c = (
+  rests_excuse g.N.Name.facts.start g.M.Mapper.span g.M.Mapper.runs g.M.Mapper.refused (works_of c.self-inside-2.view_is) c.in-Err.number (refuses g c)
+      c.excuse_to_hand.new.seat
+      c.excuse_to_hand.ensures.seat,
+  bounded_most g.N.Name.facts g.M.Mapper.refused (works_of c.self-inside-2.view_is) (g.M.Mapper.refused c.self.inside.works.mapper) c.self.invariant.1 512 c.in-Err.ensures.most (omega arith),
+)
 
 -- what the hand's own try left
 tried-in-Err : (g : Over) (c : goal.After-excuse_to_hand g) → Tried c.args.hand.now c.match-first.hand
