@@ -1,5 +1,5 @@
 -- A group has left its ring and is no more: what the steps that end it owe, and what stands then.
-use Rattle.std.proofs.Common.{◌≡◌, ℕ, ◌+◌, ◌*◌, ◌%◌, ◌<◌, ◌≤◌, List, [], ◌++◌, Contains, Option, Some, IsSome, refl, sym, ap, ◌∙◌, subst, arith, inr}
+use Rattle.std.proofs.Common.{◌≡◌, ℕ, ◌+◌, ◌*◌, ◌%◌, ◌<◌, ◌≤◌, List, [], ◌++◌, Contains, Option, Some, IsSome, refl, sym, ap, ◌∙◌, subst, arith, inr, None}
 use Rattle.std.proofs.lemmas.List.{append-nil}
 use Rattle.std.proofs.lemmas.Option.{same_Some}
 use Rattle.ng_meta.specs.Place.{IsMetaPlace}
@@ -7,6 +7,7 @@ use Rattle.ng_mapper.specs.Mapping.{AreLaid, IsSpan, Span}
 use Rattle.ng_mapper.specs.Runs as mapper
 use Rattle.ng_mapper.specs.declared.refusals.Refusals.{Refusals}
 use Rattle.ng_lists.specs.Rings.{IsListed}
+use Rattle.ng_policy.specs.Bounce.{Bounces, stamped, stepped}
 use Rattle.ng_shelf.specs.Parents.{parent_of}
 use Rattle.ng_view.specs.Groups.{IsCarriedIn}
 use Rattle.ng_view.specs.Notes.{plain_run}
@@ -26,8 +27,8 @@ use Rattle.ng_serve.specs.Groups.{Describes}
 use Rattle.ng_serve.specs.declared.group.LiveGroup.{LiveGroup}
 use Rattle.ng_ledger.proofs.CarrierLemmas.{carrier}
 use Rattle.ng_ledger.proofs.GroupLemmas.{groups_were}
-use Rattle.ng_group.specs.Ending.{EndsGroup}
-use Rattle.ng_group.specs.Returning.{AreFewer, ComesInHand, HasReturned, HasWhole, IsAbove}
+use Rattle.ng_group.specs.Ending.{Ends, EndsGroup, LeavesAnyRing}
+use Rattle.ng_group.specs.Returning.{ComesInHand, HasReturned, HasWhole, IsAbove}
 use Rattle.ng_group.specs.Serving.{OnlyRing}
 use Rattle.ng_group.specs.States.{IsWorking, State, Working, ledger_of}
 use Rattle.ng_group.specs.Steps.{GoesOn}
@@ -91,12 +92,6 @@ module _ {M P : Type 0} {start : Start} {span : M → Span} {runs : M → List m
     next = ap (λ (v : View). v.desk.next) seat_is;
   })
 
-  -- no group came
-  fewer_still : (w : View) → w.desk.groups ≡ t.seat.desk.groups → AreFewer old.seat w
-  fewer_still w same g there =
-      let left : Among g (groups_but meta e.mid.seat.desk.groups) = subst (Among g) (same ∙ ap (λ (v : View). v.desk.groups) seat_is) there in
-      subst (λ (v : View). Among g v.desk.groups) e.only.view (groups_were e.mid.seat.desk.groups meta g left).0
-
   -- ---- a group on a run
   module _ (paged : 0 < found.maplen) (laid : AreLaid (span e.mid.mapper) (runs e.mid.mapper)) where
     has_pages : 0 < e.whole.group.maplen
@@ -133,9 +128,6 @@ module _ {M P : Type 0} {start : Start} {span : M → Span} {runs : M → List m
     module _ (w : View) (only : OnlyCells (without_run t.seat found.base) w) where
       dropped_is : w ≡ knowing (without_run (retired_nested e.mid.seat meta) e.whole.group.base) w.desk.cells w.readings
       dropped_is = only.view ∙ ap (λ (v : View). knowing (without_run v found.base) w.desk.cells w.readings) seat_is ∙ ap (λ b. knowing (without_run (retired_nested e.mid.seat meta) b) w.desk.cells w.readings) (sym e.is.base)
-
-      pub run_fewer : AreFewer old.seat w
-      run_fewer = fewer_still w (ap (λ (v : View). v.desk.groups) only.view)
 
       pub run_held : w.held ≡ []
       run_held = ap (λ (v : View). v.held) dropped_is ∙ none_back start.pages e.mid.seat meta e.works.stands.groups e.whole (e.ends.retires.uncarried e.whole.group e.whole.there e.whole.of_meta has_pages)
@@ -195,9 +187,6 @@ module _ {M P : Type 0} {start : Start} {span : M → Span} {runs : M → List m
         groups_are : w.desk.groups ≡ groups_but meta e.mid.seat.desk.groups
         groups_are = ap (λ (v : View). v.desk.groups) cleared_is
 
-        pub slot_fewer : AreFewer old.seat w
-        slot_fewer = fewer_still w (ap (λ (v : View). v.desk.groups) only.view)
-
         pub slot_on : GoesOn old.seat w
         slot_on = goes_then old.seat t.seat w goes (subst (λ (v : View). GoesOn t.seat v) (sym only.view) (record { came = record { words = []; readings = sym (append-nil t.seat.readings) }; next = refl }))
 
@@ -214,3 +203,35 @@ module _ {M P : Type 0} {start : Start} {span : M → Span} {runs : M → List m
         pub slot_in_hand : AreLaid (span e.mid.mapper) (runs e.mid.mapper) → IsSpan (span e.mid.mapper) → ComesInHand meta (ledger_of old) (record (ledger_of t) { seat = w })
         slot_in_hand laid bounded = comes_then meta (ledger_of old) (ledger_of e.mid) (record (ledger_of t) { seat = w }) (only_hand found.class old e.mid e.only) (subst (λ (x : State M P). ComesInHand meta (ledger_of e.mid) (record (ledger_of x) { seat = w })) (sym e.ends.state)
             (nested_hand start (span e.mid.mapper) (runs e.mid.mapper) (refused e.mid.mapper) (ledger_of e.mid) e.works meta e.whole nested e.absent w t.seat.desk.cells t.seat.readings (edit p i (recalling only.cells) (retired_nested e.mid.seat meta).held) t.usage cleared_is kept laid bounded clear))
+
+-- ---- how the group ended is told
+
+module _ {M P : Type 0} {old mid told t : State M P} (runs : M → List mapper.Run) (meta : ℕ) (found : LiveGroup) (same : t ≡ told) (leaves : LeavesAnyRing found.class meta old mid) (ended : EndsGroup meta mid told) where
+  pub ends_run : (w : View) (b : Bounces) (m' : M) → 0 < found.maplen → OnlyCells (without_run t.seat found.base) w → b ≡ stamped (stepped t.bounces) found.class
+      → mapper.RemovesRun (runs t.mapper) (runs m') (found.base, found.maplen) → ¬ Contains (runs m') (found.base, found.maplen)
+      → Ends runs meta found None old (record t { seat = w; bounces = b; mapper = m' })
+  ends_run w b m' paged cells counted removes gone = record {
+    unlisted = mid;
+    retired = t;
+    leaves = leaves;
+    ends = subst (EndsGroup meta mid) (sym same) ended;
+    run = record {
+      paged = paged;
+      state = ap (λ (x : Bounces). record t { seat = w; bounces = x; mapper = m' }) counted;
+      cells = cells;
+      removes = removes;
+      gone = gone;
+    };
+    slot = tt;
+  }
+
+  pub ends_slot : (p i : ℕ) (w : View) → found.maplen ≡ 0 → parent_of t.parents meta ≡ Some (p, i) → OnlySlot t.seat p i w
+      → Ends runs meta found (Some (p, i)) old (record t { seat = w })
+  ends_slot p i w pageless carries only = record {
+    unlisted = mid;
+    retired = t;
+    leaves = leaves;
+    ends = subst (EndsGroup meta mid) (sym same) ended;
+    run = tt;
+    slot = record { pageless = pageless; carries = carries; only = only; state = refl };
+  }

@@ -1,8 +1,8 @@
 -- A group whose slots are all in the seat leaves its ring, and the next of the ring becomes its first.
-use Rattle.std.proofs.Common.{◌≡◌, ◌≢◌, ℕ, ◌+◌, ◌<◌, eqb, cond, Bool, true, false, true≢false, List, [], ◌∷◌, ◌++◌, Contains, None, Option, Some, drop, refl, sym, ap, ◌∙◌, subst, inl, inr, arith}
+use Rattle.std.proofs.Common.{◌≡◌, ◌≢◌, ℕ, ◌+◌, ◌<◌, eqb, cond, Bool, true, false, true≢false, List, [], ◌∷◌, ◌++◌, Contains, IfNone, IfSome, None, Option, Some, drop, refl, sym, ap, ◌∙◌, subst, inl, inr, arith}
 use Rattle.std.specs.List.{slice_get}
 use Rattle.std.specs.Option.{option_eq}
-use Rattle.std.proofs.lemmas.Bool.{eqb-false, eqb-true}
+use Rattle.std.proofs.lemmas.Bool.{eq-eqb, eqb-false, eqb-true}
 use Rattle.ng_meta.specs.Place.{IsMetaPlace}
 use Rattle.ng_mapper.specs.Mapping.{Span}
 use Rattle.ng_mapper.specs.Runs as mapper
@@ -19,7 +19,7 @@ use Rattle.ng_view.specs.declared.view.Held.{Held}
 use Rattle.ng_view.specs.declared.view.Start.{Start}
 use Rattle.ng_view.specs.declared.view.View.{View}
 use Rattle.ng_serve.specs.Groups.{AreInSpace}
-use Rattle.ng_serve.specs.Takes.{StocksFreed, with_masks}
+use Rattle.ng_serve.specs.Takes.{StocksFreed, StocksInUse, with_masks}
 use Rattle.ng_ledger.specs.Groups.{AreGroups, IsOfClass}
 use Rattle.ng_ledger.specs.Rings.{AreRinged, IsIn, IsTable, left}
 use Rattle.ng_ledger.specs.Standing.{Ledger}
@@ -27,6 +27,7 @@ use Rattle.ng_ledger.proofs.ElementLemmas.{contains_get}
 use Rattle.ng_ledger.proofs.RingLemmas.{leave, stock_alone}
 use Rattle.ng_ledger.proofs.StepLemmas.{left_first, left_unlisted}
 use Rattle.ng_ledger.proofs.TableLemmas.{in_listed, one_ring}
+use Rattle.ng_group.specs.Ending.{LeavesRing, Unlists}
 use Rattle.ng_group.specs.Returning.{HasWhole}
 use Rattle.ng_group.specs.Serving.{OnlyRing, with_search}
 use Rattle.ng_group.specs.States.{IsWorking, State}
@@ -107,6 +108,10 @@ pub number_is : (o : Option ℕ) (m : ℕ) → true ≡ option_eq eqb o (Some m)
 number_is None m is = absurd (true≢false is)
 number_is (Some x) m is = ap (λ (k : ℕ). Some k) (eqb-true x m (sym is))
 
+-- and one that isn't found is another
+pub number_not : (o : Option ℕ) (m : ℕ) → false ≡ option_eq eqb o (Some m) → o ≢ Some m
+number_not o m is same = true≢false (sym (ap (λ (x : Option ℕ). option_eq eqb x (Some m)) same ∙ eq-eqb m m refl) ∙ sym is)
+
 -- the meta behind a ring's first has avail noted as 0, and is the first once that one has left
 pub next_bare : (gs : List Group) (ls z : List ℕ) (before after : RingTable) (class m next : ℕ) → class < 48 → AreRinged gs ls z before
     → slice_get (ring_of before class) 0 ≡ Some m → after ≡ left before class m → slice_get (ring_of after class) 0 ≡ Some next → Among next z
@@ -163,3 +168,47 @@ module _ (v w : View) (next : ℕ) (stocks : StocksFreed v next w) where
 -- a meta in no ring isn't a ring's first
 pub not_first : (t : RingTable) (class m next : ℕ) → ¬ IsListed t m → slice_get (ring_of t class) 0 ≡ Some next → m ≢ next
 not_first t class m next absent first same = absent (subst (IsListed t) (sym same) (in_listed t class next (contains_get (ring_of t class) next first)))
+
+-- ---- each step is told
+
+module _ {M P : Type 0} {s now : State M P} (class meta : ℕ) (same : s ≡ now) where
+  pub unlists_now : (n : ℕ) (w : View) (t : RingTable) → IsIn now.rings class meta → NotesRing s.seat meta false n w → t ≡ left s.rings class meta
+      → Unlists class meta now (record s { seat = w; rings = t })
+  unlists_now n w t member notes turned = record {
+    member = member;
+    mask = n;
+    state = subst
+        (λ (x : State M P). record s { seat = w; rings = t } ≡ record x { seat = read (ring_read x.seat meta false n) (meta + 28) n; rings = left x.rings class meta }) same
+        (ap (λ (v : View). record s { seat = v; rings = t }) notes.view
+        ∙ ap (λ (r : RingTable). record s { seat = read (ring_read s.seat meta false n) (meta + 28) n; rings = r }) turned);
+  }
+
+  module _ (before : State M P) (unlists : Unlists class meta before now) where
+    unlists_named : Unlists class meta before s
+    unlists_named = subst (Unlists class meta before) (sym same) unlists
+
+    pub leaves_next : (next : ℕ) (w : View) → slice_get (ring_of before.rings class) 0 ≡ Some meta → slice_get (ring_of s.rings class) 0 ≡ Some next → StocksFreed s.seat next w
+        → LeavesRing class meta before (record s { seat = w })
+    leaves_next next w first second stocks = record {
+      unlisted = s;
+      unlists = unlists_named;
+      first = λ is. (
+        subst (λ (o : Option ℕ). IfNone o (record s { seat = w } ≡ s)) (sym second) tt,
+        subst (λ (o : Option ℕ). IfSome o (λ n. StocksInUse s.seat n w × (record s { seat = w } ≡ record s { seat = w }))) (sym second) (stocks.steps, refl),
+      );
+      other = λ not. absurd (not first);
+    }
+
+    pub leaves_last : (after : State M P) → after ≡ s → slice_get (ring_of s.rings class) 0 ≡ None → LeavesRing class meta before after
+    leaves_last after is none = record {
+      unlisted = s;
+      unlists = unlists_named;
+      first = λ first. (
+        subst (λ (o : Option ℕ). IfNone o (after ≡ s)) (sym none) is,
+        subst (λ (o : Option ℕ). IfSome o (λ n. StocksInUse s.seat n after.seat × (after ≡ record s { seat = after.seat }))) (sym none) tt,
+      );
+      other = λ not. is;
+    }
+
+    pub leaves_other : (slice_get (ring_of before.rings class) 0 ≢ Some meta) → LeavesRing class meta before s
+    leaves_other apart = record { unlisted = s; unlists = unlists_named; first = λ first. absurd (apart first); other = λ not. refl }

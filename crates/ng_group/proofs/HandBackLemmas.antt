@@ -8,7 +8,7 @@ use Rattle.ng_mapper.specs.Runs as mapper
 use Rattle.ng_mapper.specs.declared.refusals.Refusals.{Refusals}
 use Rattle.ng_mask.specs.Fetches.{OfGroup}
 use Rattle.ng_policy.specs.declared.ask.Spare.{Spare}
-use Rattle.ng_serve.specs.Groups.{Describes}
+use Rattle.ng_serve.specs.Groups.{Describes, ReadsFields}
 use Rattle.ng_serve.specs.Reads.{Reads}
 use Rattle.ng_serve.specs.declared.group.LiveGroup.{LiveGroup}
 use Rattle.ng_space.specs.Blocks.{BlockToken, HasBlock}
@@ -25,7 +25,7 @@ use Rattle.ng_view.specs.declared.view.Start.{Start}
 use Rattle.ng_view.specs.declared.view.View.{View}
 use Rattle.ng_ledger.specs.Standing.{KeepsHand, Ledger}
 use Rattle.ng_group.specs.Hands.{IsApart}
-use Rattle.ng_group.specs.Returning.{HasReturned, Returns, ReturnsOfHand}
+use Rattle.ng_group.specs.Returning.{Around, HasReturned, Returns, ReturnsOfHand}
 use Rattle.ng_group.specs.States.{IsResting, IsWorking, Resting, State, Working, ledger_of}
 use Rattle.ng_group.specs.Steps.{Came, GoesOn}
 use Rattle.ng_group.proofs.CallLemmas.{hand_still, works_still}
@@ -145,20 +145,22 @@ module _ (v w : View) (hand : Caller) (token : Token) (has : HasSlot hand token)
     only_back = subst (λ (y : View). y ≡ record v { held = y.held; excuses = y.excuses; readings = y.readings }) (sym read_view) refl
 
     -- what the return of the slot tells, it tells of the hand's
+    held_view : record v { held = x.held } ≡ w
+    held_view = ap (λ (hs : List Held). record v { held = hs }) (ap (λ (y : View). y.held) read_view) ∙ sym back_view
+
     pub returns_back : {M P : Type 0} (keeps : Spare → Bool → Type 0) (runs : M → List mapper.Run) (s after : State M P) (found : LiveGroup)
-        → s.seat ≡ v → OfGroup w token.meta (Describes found) → Returns keeps runs (record s { seat = x }) after token.meta token.index found
+        → s.seat ≡ v → OfGroup w token.meta (Describes found) → ReadsFields w token.meta x → (around : List Around) × Returns keeps runs (record s { seat = x }) token.meta token.index found around after
         → ReturnsOfHand keeps runs s after token.meta token.index
-    returns_back {M} {P} keeps runs s after found same describes returns = record {
-      group = has.held.place.group;
-      there = subst (λ (y : View). Among has.held.place.group y.desk.groups) (sym same) group_back;
-      of_meta = place_back.0;
-      found = found;
-      describes = describes has.held.place.group (slots has.held there_back).there place_back.0;
-      looked = x;
-      came = subst (λ (y : View). Came y x) (sym same) came_back;
-      desk = desk_back ∙ ap (λ (y : View). y.desk) (sym same);
-      returns = returns;
-    }
+    returns_back {M} {P} keeps runs s after found same describes fields returns =
+        let slot = returned_back in record {
+          found = found;
+          looked = x;
+          slot = slot;
+          describes = describes slot.group (subst (λ (y : View). Among slot.group y.desk.groups) reads.view slot.there) slot.of_meta;
+          reads = subst (λ (y : View). ReadsFields (record y { held = x.held }) token.meta x) (sym same) (subst (λ (y : View). ReadsFields y token.meta x) (sym held_view) fields);
+          around = returns.0;
+          returns = returns.1;
+        }
 
 -- ---- the core rests again once the slot has been returned
 rests_back : (start : Start) (span span' : Span) (live live' : List mapper.Run) (refused refused' : Refusals) (l after : Ledger) (w : View)
@@ -206,12 +208,13 @@ module _ {M P : Type 0} {s now : State M P} (start : Start) (span : M → Span) 
       hand_goes on = subst (λ (t : State M P). GoesOn t.seat after.seat) same
           (goes_then s.seat x after.seat (goes_back s.seat w hand token has was_still view x reads slots) on)
 
-      pub hand_returns : (gives : P → Spare → Bool → Type 0) (found : LiveGroup) → OfGroup w meta (Describes found)
-          → Returns (gives s.rules) runs (record s { seat = x }) after meta index found
+      pub hand_returns : (gives : P → Spare → Bool → Type 0) (found : LiveGroup) → OfGroup w meta (Describes found) → ReadsFields w meta x
+          → (around : List Around) × Returns (gives s.rules) runs (record s { seat = x }) meta index found around after
           → ReturnsOfHand (gives now.rules) runs now after token.meta token.index
-      hand_returns gives found describes returns =
+      hand_returns gives found describes fields returns =
           subst (λ (t : State M P). ReturnsOfHand (gives t.rules) runs t after token.meta token.index) same
           (returns_back s.seat w hand token has was_still view x reads slots (gives s.rules) runs s after found refl
           (subst (λ (m : ℕ). OfGroup w m (Describes found)) of_meta describes)
-          (subst (λ (m : ℕ). Returns (gives s.rules) runs (record s { seat = x }) after m token.index found) of_meta
-          (subst (λ (i : ℕ). Returns (gives s.rules) runs (record s { seat = x }) after meta i found) of_index returns)))
+          (subst (λ (m : ℕ). ReadsFields w m x) of_meta fields)
+          (subst (λ (m : ℕ). (around : List Around) × Returns (gives s.rules) runs (record s { seat = x }) m token.index found around after) of_meta
+          (subst (λ (i : ℕ). (around : List Around) × Returns (gives s.rules) runs (record s { seat = x }) meta i found around after) of_index returns)))

@@ -1,5 +1,5 @@
 -- Metas that a call takes in hand and lets go, and what a return of a slot leaves.
-use Rattle.std.proofs.Common.{◌≡◌, ◌≢◌, ℕ, ◌<◌, Bool, true, false, true≢false, List, [], ◌∷◌, ◌++◌, Contains, refl, sym, ap, ◌∙◌, subst, arith}
+use Rattle.std.proofs.Common.{◌≡◌, ◌≢◌, ℕ, ◌<◌, Bool, true, false, List, [], ◌∷◌, ◌++◌, Contains, None, Some, refl, sym, ap, ◌∙◌, subst, inl, inr, arith}
 use Rattle.ng_mapper.specs.Mapping.{Span}
 use Rattle.ng_mapper.specs.Runs as mapper
 use Rattle.ng_mapper.specs.declared.refusals.Refusals.{Refusals}
@@ -10,22 +10,22 @@ use Rattle.ng_view.specs.declared.view.Group.{Group}
 use Rattle.ng_view.specs.declared.view.Start.{Start}
 use Rattle.ng_view.specs.declared.view.View.{View}
 use Rattle.ng_policy.specs.declared.ask.Spare.{Spare}
-use Rattle.ng_ledger.specs.Groups.{IsUnborn}
 use Rattle.ng_ledger.specs.Metas.{IsBlankMeta}
 use Rattle.ng_ledger.specs.Standing.{InHand, KeepsHand, Ledger}
 use Rattle.ng_ledger.proofs.HandLemmas.{hand_put_other, hand_put_was, keeps_hand-same, keeps_hand-trans}
 use Rattle.ng_ledger.proofs.MetaLemmas.{free_put}
 use Rattle.ng_mask.specs.Fetches.{OfGroup}
-use Rattle.ng_serve.specs.Groups.{Describes}
+use Rattle.ng_serve.specs.Groups.{Describes, ReadsFields}
 use Rattle.ng_serve.specs.Reads.{Reads}
 use Rattle.ng_serve.specs.declared.group.LiveGroup.{LiveGroup}
 use Rattle.ng_group.specs.Building.{HasInHand}
 use Rattle.ng_group.specs.Returning as returning
-use Rattle.ng_group.specs.Returning.{AreFewer, HasReturned, HasWhole, IsAbove, Returns, TakesWhole}
+use Rattle.ng_group.specs.Ending.{Ends}
+use Rattle.ng_group.specs.Returning.{Around, HasReturned, HasWhole, IsAbove, Returns, TakesWhole, with_free}
 use Rattle.ng_group.specs.Serving.{OnlyRing, with_search}
 use Rattle.ng_group.specs.States.{IsWorking, State, Working, ledger_of}
-use Rattle.ng_group.specs.Steps.{Came, GoesOn, HandsOver}
-use Rattle.ng_group.proofs.WorkingLemmas.{came_same, goes_same, goes_then, only_goes, only_hand, searched}
+use Rattle.ng_group.specs.Steps.{GoesOn, HandsOver}
+use Rattle.ng_group.proofs.WorkingLemmas.{goes_same, goes_then, only_goes, only_hand, searched}
 
 -- the meta of a live group has its place
 pub place_of : (start : Start) (span : Span) (live : List mapper.Run) (refused : Refusals) (l : Ledger) (g : Group) (meta : ℕ)
@@ -264,28 +264,8 @@ module _ {M P : Type 0} (start : Start) (span : M → Span) (runs : M → List m
         (subst (λ (s : State M P). Keeps start span runs refused before (record s { stock = stocked s.stock meta })) (sym same) ended_keeps)
 
 -- ---- what a return tells
-fewer_same : (v : View) → AreFewer v v
-fewer_same v g among = among
-
-pub fewer_then : (u v w : View) → AreFewer u v → AreFewer v w → AreFewer u w
-fewer_then u v w first second g among = first g (second g among)
 
 module _ {M P : Type 0} where
-  -- no group came
-  pub only_fewer : (class : ℕ) (before after : State M P) → OnlyRing class before after → AreFewer before.seat after.seat
-  only_fewer class before after only g among = subst (λ (v : View). Among g v.desk.groups) only.view among
-
-  pub fewer_at : {s now : State M P} (v : View) → s ≡ now → AreFewer v now.seat → AreFewer v s.seat
-  fewer_at {s} {now} v same fewer = subst (λ (x : State M P). AreFewer v x.seat) (sym same) fewer
-
-  pub fewer_read : {s now : State M P} (w : View) → s ≡ now → Reads s.seat w → AreFewer now.seat w
-  fewer_read {s} {now} w same reads = subst (λ (x : State M P). AreFewer x.seat w) same (λ g among. subst (λ (v : View). Among g v.desk.groups) reads.view among)
-
-  -- words were read
-  pub came_read : {s now : State M P} (w : View) → s ≡ now → Reads s.seat w → Came now.seat w
-  came_read {s} {now} w same reads = subst (λ (x : State M P). Came x.seat w) same
-      (record { words = reads.words; readings = ap (λ (v : View). v.readings) reads.view })
-
   -- the slot around one that ended is in the seat, of a group of a greater class
   pub around_above : {s now : State M P} (meta index class : ℕ) (found : LiveGroup) → s ≡ now → HasReturned now.seat meta index → IsAbove class now.seat meta
       → OfGroup s.seat meta (Describes found) → class < found.class
@@ -295,50 +275,43 @@ module _ {M P : Type 0} where
   pub around_returned : {s now : State M P} (w : View) (meta index : ℕ) → s ≡ now → Reads s.seat w → HasReturned now.seat meta index → HasReturned w meta index
   around_returned {s} {now} w meta index same reads has = returned_read s.seat w meta index reads (subst (λ (x : State M P). HasReturned x.seat meta index) (sym same) has)
 
-  -- the slot went back, and the same groups live
-  pub returns_back : (keeps : Spare → Bool → Type 0) (runs : M → List mapper.Run) (class : ℕ) (before after : State M P) (meta index : ℕ) (found : LiveGroup) (answer : Bool)
-      → answer ≡ false → TakesWhole keeps before meta index found answer after.seat → OnlyRing class before after → Returns keeps runs before after meta index found
-  returns_back keeps runs class before after meta index found answer is takes only = record {
-    answer = answer;
-    taken = after.seat;
-    takes = takes;
-    came = came_same after.seat;
-    unborn = λ whole. absurd (true≢false (sym whole ∙ is));
-    unmapped = λ whole. absurd (true≢false (sym whole ∙ is));
-    groups = λ back. ap (λ (v : View). v.desk.groups) only.view;
-    stays = λ back. ap (λ (s : State M P). runs s.mapper) only.state;
-    counter = ap (λ (s : State M P). s.counter) only.state;
-  }
+  -- the slot went back
+  pub returns_back : (keeps : Spare → Bool → Type 0) (runs : M → List mapper.Run) (before after : State M P) (meta index : ℕ) (found : LiveGroup) (answer : Bool)
+      → answer ≡ false → TakesWhole keeps before meta index found answer after → (around : List Around) × Returns keeps runs before meta index found around after
+  returns_back keeps runs before after meta index found answer is takes =
+      ([], inl (subst (λ (b : Bool). TakesWhole keeps before meta index found b after) is takes))
 
-  -- the group ended, and no group came then
-  module _ (keeps : Spare → Bool → Type 0) (runs : M → List mapper.Run) (before : State M P) (meta index : ℕ) (found : LiveGroup) (answer : Bool) (taken : View)
-      (is : answer ≡ true) (takes : TakesWhole keeps before meta index found answer taken) where
-    returns_ended : (ended : View) (after : State M P) → Came taken after.seat → IsUnborn ended.desk.groups meta → AreFewer ended after.seat
-        → (0 < found.maplen → ¬ Contains (runs after.mapper) (found.base, found.maplen))
-        → after.counter ≡ before.counter → Returns keeps runs before after meta index found
-    returns_ended ended after came unborn fewer unmapped counter = record {
-      answer = answer;
-      taken = taken;
-      takes = takes;
-      came = came;
-      unborn = λ whole g among. unborn g (fewer g among);
-      unmapped = λ whole. unmapped;
-      groups = λ back. absurd (true≢false (sym is ∙ back));
-      stays = λ back. absurd (true≢false (sym is ∙ back));
-      counter = counter;
-    }
+  -- the group ended
+  module _ (gives : P → Spare → Bool → Type 0) (runs : M → List mapper.Run) (before taken : State M P) (meta index : ℕ) (found : LiveGroup) (answer : Bool)
+      (is : answer ≡ true) (takes : TakesWhole (gives before.rules) before meta index found answer taken) where
+    taken_whole : TakesWhole (gives before.rules) before meta index found true taken
+    taken_whole = subst (λ (b : Bool). TakesWhole (gives before.rules) before meta index found b taken) is takes
+
+    freed_then : (s now : State M P) (put' : Stock) → s ≡ now → put' ≡ stocked s.stock meta → record s { stock = put' } ≡ with_free now meta
+    freed_then s now put' same puts = ap (λ (x : Stock). record s { stock = x }) puts ∙ ap (λ (x : State M P). with_free x meta) same
 
     -- with its run
-    pub returns_run : {s now : State M P} (put' : Stock) → s ≡ now → Came taken now.seat → IsUnborn now.seat.desk.groups meta → ¬ Contains (runs now.mapper) (found.base, found.maplen)
-        → now.counter ≡ before.counter → Returns keeps runs before (record s { stock = put' }) meta index found
-    returns_run {s} {now} put' same came unborn unmapped counter = subst (λ (x : State M P). Returns keeps runs before (record x { stock = put' }) meta index found) (sym same)
-        (returns_ended now.seat (record now { stock = put' }) came unborn (fewer_same now.seat) (λ paged. unmapped) counter)
+    pub returns_run : {s now : State M P} (put' : Stock) → s ≡ now → put' ≡ stocked s.stock meta → Ends runs meta found None taken now
+        → (around : List Around) × Returns (gives before.rules) runs before meta index found around (record s { stock = put' })
+    returns_run {s} {now} put' same puts ends =
+        ([], inr (now, record { taken = taken; takes = taken_whole; ends = ends }, freed_then s now put' same puts))
 
     -- or in the slot of another, which was returned
-    pub returns_slot : {s now : State M P} (put' : Stock) (ended : View) → s ≡ now → Came taken now.seat → IsUnborn ended.desk.groups meta → AreFewer ended now.seat → found.maplen ≡ 0
-        → now.counter ≡ before.counter → Returns keeps runs before (record s { stock = put' }) meta index found
-    returns_slot {s} {now} put' ended same came unborn fewer nested counter = subst (λ (x : State M P). Returns keeps runs before (record x { stock = put' }) meta index found) (sym same)
-        (returns_ended ended (record now { stock = put' }) came unborn fewer (λ paged. absurd (none paged)) counter)
-      where
-        none : 0 < found.maplen → ⊥
-        none paged = omega arith
+    pub returns_slot : {e ended s back : State M P} (put' : Stock) (p i : ℕ) (carrying : LiveGroup) (looked : View) → e ≡ ended → Ends runs meta found (Some (p, i)) taken ended → ended.rules ≡ before.rules
+        → ReadsFields e.seat p looked → Reads e.seat looked → OfGroup e.seat p (Describes carrying)
+        → (around : List Around) × Returns (gives e.rules) runs (record e { seat = looked }) p i carrying around back
+        → s ≡ back → put' ≡ stocked s.stock meta
+        → (around : List Around) × Returns (gives before.rules) runs before meta index found around (record s { stock = put' })
+    returns_slot {e} {ended} {s} {back} put' p i carrying looked named ends ruled fields reads describes (more, inner) same puts = (
+      record { meta = p; index = i; found = carrying } ∷ more,
+      (
+        ended,
+        looked,
+        back,
+        record { taken = taken; takes = taken_whole; ends = ends },
+        (subst (λ (x : State M P). ReadsFields x.seat p looked) named fields, describes_read e.seat looked p carrying reads describes),
+        subst (λ r. Returns (gives r) runs (record ended { seat = looked }) p i carrying more back) ruled
+            (subst (λ (x : State M P). Returns (gives x.rules) runs (record x { seat = looked }) p i carrying more back) named inner),
+        freed_then s back put' same puts,
+      ),
+    )

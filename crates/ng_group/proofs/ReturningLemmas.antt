@@ -1,8 +1,7 @@
 -- What the rules are asked of a group, and how a slot comes back into its group.
-use Rattle.std.proofs.Common.{◌≡◌, ◌≢◌, ℕ, ◌+◌, ◌<◌, ◌≤◌, ◌&&◌, Bool, true, cond, eqb, List, [], ◌∷◌, ◌++◌, Some, None, refl, sym, ap, subst, ◌∙◌, ⊎_elim, inl, inr, arith}
+use Rattle.std.proofs.Common.{◌≡◌, ◌≢◌, ℕ, ◌+◌, ◌<◌, ◌≤◌, ◌&&◌, Bool, true, cond, eqb, List, [], ◌∷◌, Some, None, refl, sym, ap, subst, ◌∙◌, ⊎_elim, inl, inr, arith}
 use Rattle.std.specs.List.{slice_index}
 use Rattle.std.proofs.lemmas.Bool.{eq-eqb}
-use Rattle.std.proofs.lemmas.List.{append_assoc, append-nil}
 use Rattle.ng_mapper.specs.Mapping.{Span}
 use Rattle.ng_mapper.specs.Runs as mapper
 use Rattle.ng_mapper.specs.declared.refusals.Refusals.{Refusals}
@@ -10,8 +9,10 @@ use Rattle.ng_class.specs.Slot.{IsGroupClass}
 use Rattle.ng_policy.specs.Ask.{SpareInRange}
 use Rattle.ng_lists.specs.Rings.{RingTable, IsListed}
 use Rattle.ng_view.specs.Layouts.{IsLoneKind, IsSmallKind}
-use Rattle.ng_view.specs.Lists.{Among, find, is_at}
+use Rattle.ng_view.specs.Lists.{Among, find, is_at, without}
+use Rattle.ng_view.specs.LockSteps.{ring_read}
 use Rattle.ng_view.specs.Slots.{IsPlain}
+use Rattle.ng_view.specs.Steps.{read}
 use Rattle.ng_view.specs.declared.view.Group.{Group}
 use Rattle.ng_view.specs.declared.view.Held.{Held}
 use Rattle.ng_view.specs.declared.view.Start.{Start}
@@ -20,7 +21,6 @@ use Rattle.ng_view.specs.Fetches.{HasGroup}
 use Rattle.ng_view.specs.Notes.{NotesRing}
 use Rattle.ng_mask.specs.Fetches.{OfGroup}
 use Rattle.ng_serve.specs.Groups.{Describes}
-use Rattle.ng_serve.specs.Reads.{AreAt}
 use Rattle.ng_serve.specs.Takes.{ChangesMasks, HasBare, IsServed, PutsSlot}
 use Rattle.ng_serve.specs.declared.group.LiveGroup.{LiveGroup}
 use Rattle.ng_serve.proofs.Changes.{changes_listed}
@@ -29,7 +29,7 @@ use Rattle.ng_ledger.specs.Rings.{AreRinged, IsIn, IsTable, entered}
 use Rattle.ng_ledger.specs.Standing.{Ledger}
 use Rattle.ng_ledger.proofs.RingLemmas.{enter, noted_from_listed}
 use Rattle.ng_ledger.proofs.UsageLemmas.{bounded}
-use Rattle.ng_group.specs.Returning.{HasReturned, ReadsFreed}
+use Rattle.ng_group.specs.Returning.{Enlists, GoesBack, HasReturned}
 use Rattle.ng_group.specs.Serving.{OnlyRing, with_search}
 use Rattle.ng_group.specs.States.{IsWorking, State, Working, ledger_of}
 use Rattle.ng_group.proofs.WorkingLemmas.{only_then, searched}
@@ -180,42 +180,35 @@ module _ {M P : Type 0} (before mid s : State M P) (same : s ≡ mid) (class : �
         (subst (λ z. AreRinged mid.seat.desk.groups mid.seat.desk.listed z mid.rings) (sym puts.avail) works.stands.ringed)
         works)
 
--- ---- only the freed mask is read then
+-- none is in the seat then
+pub idle_put : (v : View) (held : List Held) (meta index : ℕ) → HasReturned v meta index → held ≡ v.held → without meta index held ≡ []
+idle_put v held meta index has same =
+    ap (without meta index) (same ∙ has.held)
+    ∙ ap (λ (b : Bool). cond b [] (has.slot ∷ [])) (at_place has.slot meta index (ap (λ (g : Group). g.meta) has.of_group ∙ has.of_meta) has.of_index)
 
-at_both : (a : ℕ) (xs ys : List (ℕ × ℕ)) → AreAt a xs → AreAt a ys → AreAt a (xs ++ ys)
-at_both a [] ys first second word there = second word there
-at_both a (x ∷ xs) ys first second word (inl e) = first word (inl e)
-at_both a (x ∷ xs) ys first second word (inr there) = at_both a xs ys (λ other s. first other (inr s)) second word there
+-- ---- each step is told
 
-reads_then : (v u w : View) (meta : ℕ) → ReadsFreed v meta u → ReadsFreed u meta w → ReadsFreed v meta w
-reads_then v u w meta first second = record {
-  came = record {
-    words = first.came.words ++ second.came.words;
-    readings = second.came.readings ∙ ap (λ (l : List (ℕ × ℕ)). l ++ second.came.words) first.came.readings ∙ append_assoc v.readings first.came.words second.came.words;
-  };
-  freed = at_both (meta + 28) first.came.words second.came.words first.freed second.freed;
-}
+module _ {M P : Type 0} {s now : State M P} (class meta : ℕ) (same : s ≡ now) where
+  pub enlists_here : IsListed s.rings meta → Enlists class meta now now
+  enlists_here listed = inl (subst (λ (x : State M P). IsListed x.rings meta) same listed, refl)
 
--- of a group that is in its ring nothing is
-pub reads_none : (v : View) (meta : ℕ) → ReadsFreed v meta v
-reads_none v meta = record {
-  came = record { words = []; readings = sym (append-nil v.readings) };
-  freed = λ word there. elim there [ ];
-}
+  pub enlists_last : (n : ℕ) (w : View) (t : RingTable) → ¬ IsListed s.rings meta → NotesRing s.seat meta true n w → t ≡ entered s.rings class meta
+      → Enlists class meta now (record s { seat = w; rings = t })
+  enlists_last n w t absent notes turn = subst (λ (x : State M P). Enlists class meta x (record s { seat = w; rings = t })) same
+      (inr (
+        absent,
+        (
+          n,
+          ap (λ (v : View). record s { seat = v; rings = t }) notes.view
+              ∙ ap (λ (r : RingTable). record s { seat = read (ring_read s.seat meta true n) (meta + 28) n; rings = r }) turn,
+        ),
+      ))
 
-module _ {M P : Type 0} {s now : State M P} (meta : ℕ) (same : s ≡ now) where
-  pub reads_enlisted : (n : ℕ) (w : View) → NotesRing s.seat meta true n w → ReadsFreed now.seat meta w
-  reads_enlisted n w notes = subst (λ (x : State M P). ReadsFreed x.seat meta w) same (record {
-    came = record { words = (meta + 28, n) ∷ []; readings = ap (λ (x : View). x.readings) notes.view };
-    freed = at_freed n;
-  })
-    where
-      at_freed : (n : ℕ) → AreAt (meta + 28) ((meta + 28, n) ∷ [])
-      at_freed n word (inl e) = ap (λ (p : ℕ × ℕ). p.0) e
-      at_freed n word (inr there) = elim there [ ]
-
-  pub reads_put : (v : View) (index : ℕ) (w : View) → ReadsFreed v meta now.seat → PutsSlot s.seat meta index w → ReadsFreed v meta w
-  reads_put v index w first puts = reads_then v s.seat w meta (subst (λ (x : State M P). ReadsFreed v meta x.seat) (sym same) first) (record {
-    came = record { words = puts.changes.words; readings = ap (λ (x : View). x.readings) puts.changes.view };
-    freed = puts.freed;
-  })
+  pub goes_back : (before : State M P) (index : ℕ) (w : View) → Enlists class meta before now → PutsSlot s.seat meta index w
+      → GoesBack class meta index before (record s { seat = w })
+  goes_back before index w enlists puts = record {
+    mid = s;
+    enlists = subst (Enlists class meta before) (sym same) enlists;
+    mask = puts.pushes.mask;
+    state = ap (λ (v : View). record s { seat = v }) puts.pushes.view;
+  }

@@ -21,7 +21,7 @@ use Rattle.ng_serve.specs.declared.group.LiveGroup.{LiveGroup}
 use Rattle.ng_ledger.specs.Rings.{AreRinged}
 use Rattle.ng_ledger.proofs.RingLemmas.{grow}
 use Rattle.ng_group.specs.Filling.{AreSlots, LooksAt, Searches}
-use Rattle.ng_group.specs.Returning.{CapturesAll, HasReturned, IsKept, IsSpare, MayGo, ReadsFreed, TakesWhole}
+use Rattle.ng_group.specs.Returning.{CapturesAll, GoesBack, HasReturned, IsKept, IsSpare, MayGo, TakesWhole}
 use Rattle.ng_group.specs.Serving.{OnlyRing}
 use Rattle.ng_group.specs.States.{State, Working, ledger_of}
 use Rattle.ng_group.proofs.FillingLemmas.{fills_some}
@@ -158,14 +158,14 @@ module _ {M P : Type 0} (start : Start) (span : M → Span) (runs : M → List m
     pub back_only : (after : State M P) → OnlyRing found.class mid after → OnlyRing found.class now after
     back_only after only = only_then found.class now mid after (read_only found.class) only
 
-    pub back_takes : (keeps : P → Spare → Bool → Type 0) (x : View) → ReadsFreed w meta x
-        → (¬ FillsGroup avail freed index found.last) ⊎ IsKept (keeps s.rules) mid meta found → TakesWhole (keeps now.rules) now meta index found false x
-    back_takes keeps x freed_read stays = subst (λ (y : State M P). TakesWhole (keeps y.rules) y meta index found false x) same (record {
+    pub back_takes : (keeps : P → Spare → Bool → Type 0) (after : State M P) → GoesBack found.class meta index mid after
+        → (¬ FillsGroup avail freed index found.last) ⊎ IsKept (keeps s.rules) mid meta found → TakesWhole (keeps now.rules) now meta index found false after
+    back_takes keeps after back stays = subst (λ (y : State M P). TakesWhole (keeps y.rules) y meta index found false after) same (record {
       freed = freed;
       avail = avail;
       between = w;
       reads = looks.reads;
-      ends = inr (refl, freed_read, stays_same (¬ FillsGroup avail freed index found.last) (keeps s.rules) s w meta found stays);
+      ends = inr (stays_same (¬ FillsGroup avail freed index found.last) (keeps s.rules) s w meta found stays, refl, back);
     })
 
     -- ---- or all slots are in the seat
@@ -178,11 +178,11 @@ module _ {M P : Type 0} (start : Start) (span : M → Span) (runs : M → List m
       all_only = only_then found.class now mid (record s { seat = x }) (read_only found.class) (searched_only found.class mid x searches)
 
     pub all_takes : (keeps : P → Spare → Bool → Type 0) (x : View) (answer : Bool)
-        → FillsGroup avail freed index found.last → MayGo (keeps s.rules) mid meta found → CapturesAll w meta index found.last answer x → TakesWhole (keeps now.rules) now meta index found answer x
-    all_takes keeps x answer fills may all = subst (λ (y : State M P). TakesWhole (keeps y.rules) y meta index found answer x) same (record {
+        → FillsGroup avail freed index found.last → MayGo (keeps s.rules) mid meta found → CapturesAll w meta index found.last answer x → TakesWhole (keeps now.rules) now meta index found answer (record s { seat = x })
+    all_takes keeps x answer fills may all = subst (λ (y : State M P). TakesWhole (keeps y.rules) y meta index found answer (record s { seat = x })) same (record {
       freed = freed;
       avail = avail;
       between = w;
       reads = looks.reads;
-      ends = inl (fills, may_same (keeps s.rules) s w meta found may, all);
+      ends = inl (fills, may_same (keeps s.rules) s w meta found may, all, refl);
     })

@@ -1,5 +1,5 @@
 -- What the seat knows once a group's masks were read, or captured.
-use Rattle.std.proofs.Common.{◌≡◌, ◌≢◌, ◌⊎◌, ℕ, ◌+◌, ◌%◌, ◌^◌, ◌<◌, ◌≤◌, eqb, cond, Bool, [], ◌∷◌, ◌++◌, refl, sym, ap, subst, ◌∙◌, ⊎_elim, inl, inr, arith}
+use Rattle.std.proofs.Common.{◌≡◌, ◌≢◌, ◌⊎◌, ℕ, ◌+◌, ◌%◌, ◌^◌, ◌<◌, ◌≤◌, eqb, cond, Bool, true, false, true≢false, [], ◌∷◌, ◌++◌, refl, sym, ap, subst, ◌∙◌, ⊎_elim, inl, inr, arith}
 use Rattle.std.specs.Int.{bit_at}
 use Rattle.std.proofs.lemmas.Bool.{cases_eq, eq-eqb}
 use Rattle.std.proofs.lemmas.List.{append_assoc}
@@ -18,7 +18,7 @@ use Rattle.ng_serve.specs.Takes.{HasCaptured, IsServed, PutsCaptured}
 use Rattle.ng_serve.proofs.Changes.{changes_listed}
 use Rattle.ng_serve.proofs.Readings.{among_if}
 use Rattle.ng_group.specs.Filling.{AreSlots, LooksAt, Searches}
-use Rattle.ng_group.specs.Returning.{HasReturned, HasWhole}
+use Rattle.ng_group.specs.Returning.{CapturesAll, HasReturned, HasWhole}
 use Rattle.ng_group.specs.Serving.{with_search}
 use Rattle.ng_group.proofs.FillingLemmas.{Has, fills_one, has_each, low_bit, outside_alone, outside_slots}
 use Rattle.ng_group.proofs.ReturningLemmas.{at_place, bare_returned, changed_view, found_alone}
@@ -65,7 +65,13 @@ module _ (v u w : View) (meta first second : ℕ) (has : HasGroup v meta) (loads
   pub looks_at : (avail freed : ℕ) → avail ≡ second % 2 ^ 32 → freed ≡ first % 2 ^ 32 → LooksAt v meta avail freed w
   looks_at avail freed avail_is freed_is = record {
     searches = searched_masks;
-    reads = record { first = first; second = second; freed_is = freed_is; avail_is = avail_is; readings = ap (λ (x : View). x.readings) both };
+    reads = record {
+      first = first;
+      second = second;
+      freed_is = freed_is;
+      avail_is = avail_is;
+      view = subst (λ m. w ≡ read (avail_read (read (freed_read v m first) (meta + 28) first) m second) (meta + 24) second) has.of_meta both;
+    };
     held = ap (λ (x : View). x.held) both;
     bare = λ none. bare_read (sym avail_is ∙ none);
     avail_slots = λ g there of_meta i set. let low = low_bit second i (ap (λ n. bit_at n i) (sym avail_is) ∙ set) in (of_avail g there of_meta).within i low (bit_at_low second i low ∙ ap (λ n. bit_at n i) (sym avail_is) ∙ set);
@@ -147,6 +153,17 @@ module _ (v w : View) (meta index last avail freed : ℕ) (few : last < 32) (has
   pub searches_captured : Searches v w
   searches_captured = searched_all
 
+  pub all_captured : FillsGroup avail freed index last → CapturesAll v meta index last true w
+  all_captured fills = record {
+    avail = avail;
+    freed = freed;
+    between = w;
+    captures = captures;
+    fills = (λ is. fills, λ group. refl);
+    whole = λ is. refl;
+    back = λ not. absurd (true≢false not);
+  }
+
   -- else they may be put back
   pub may_captured : HasCaptured w meta avail freed index
   may_captured = record {
@@ -167,7 +184,22 @@ module _ (v w : View) (meta index last avail freed : ℕ) (few : last < 32) (has
     listed = subst (λ (x : View). Among meta x.desk.listed) (sym steps) served.listed;
   }
 
+  listed_captured : ¬ FillsGroup avail freed index last → (last ≡ 0) ⊎ IsServed v meta → Among meta v.desk.listed
+  listed_captured rest (inl none) = absurd (rest (fills_one avail freed index last own_index none))
+  listed_captured rest (inr served) = served.listed
+
   module _ (x : View) (puts : PutsCaptured w meta avail freed index x) where
+    pub back_captured : ¬ FillsGroup avail freed index last → (last ≡ 0) ⊎ IsServed v meta → CapturesAll v meta index last false x
+    back_captured rest served = record {
+      avail = avail;
+      freed = freed;
+      between = w;
+      captures = captures;
+      fills = (λ is. absurd (true≢false (sym is)), λ group. absurd (rest group));
+      whole = λ is. absurd (true≢false (sym is));
+      back = λ not. (puts.sets, listed_captured rest served);
+    }
+
     keeps_back : (m : ℕ) → Among m v.desk.zero_avail → Among m x.desk.zero_avail
     keeps_back m noted = ⊎_elim
         (λ (same : m ≡ meta).

@@ -1,26 +1,29 @@
 -- Slots that are returned, and groups that end by it.
-use Rattle.std.specs.Prelude.{◌≡◌, ◌≢◌, ◌⊎◌, ℕ, ◌+◌, ◌*◌, ◌%◌, ◌^◌, ◌<◌, ◌≤◌, ◌∷◌, ◌++◌, ◌↔◌, [], Bool, Contains, IsTrue, List, None, Some, true, false, slice_index}
+use Rattle.std.specs.Prelude.{◌≡◌, ◌≢◌, ◌⊎◌, ℕ, ◌+◌, ◌*◌, ◌%◌, ◌^◌, ◌<◌, ◌≤◌, ◌∷◌, ◌++◌, ◌↔◌, [], Bool, Contains, IsTrue, List, None, Option, Some, true, false, slice_index}
 use Rattle.ng_class.specs.Class.{units_of}
 use Rattle.ng_class.specs.Mask.{FillsGroup}
 use Rattle.ng_class.specs.Slot.{stride_of}
+use Rattle.ng_lists.specs.Rings.{IsListed}
 use Rattle.ng_mapper.specs.Runs as mapper
-use Rattle.ng_mask.specs.Fetches.{Captures}
+use Rattle.ng_mask.specs.Fetches.{Captures, OfGroup}
 use Rattle.ng_policy.specs.Bounce.{IsBouncing}
 use Rattle.ng_policy.specs.declared.ask.Spare.{Spare}
-use Rattle.ng_view.specs.LockSteps.{outside}
+use Rattle.ng_view.specs.Loads.{freed_read}
+use Rattle.ng_view.specs.LockSteps.{avail_read, bits_pushed, outside, ring_read}
+use Rattle.ng_view.specs.Steps.{read}
 use Rattle.ng_view.specs.Lists.{Among, find}
 use Rattle.ng_view.specs.declared.view.Group.{Group}
 use Rattle.ng_view.specs.declared.view.Held.{Held}
 use Rattle.ng_view.specs.declared.view.View.{View}
-use Rattle.ng_serve.specs.Groups.{Describes}
-use Rattle.ng_serve.specs.Reads.{AreAt}
-use Rattle.ng_serve.specs.Takes.{PutsCaptured}
+use Rattle.ng_serve.specs.Groups.{Describes, ReadsFields}
+use Rattle.ng_serve.specs.Takes.{SetsCaptured}
 use Rattle.ng_serve.specs.declared.group.LiveGroup.{LiveGroup}
 use Rattle.ng_ledger.specs.Groups.{IsUnborn}
 use Rattle.ng_ledger.specs.Metas.{IsBlankMeta}
+use Rattle.ng_ledger.specs.Rings.{entered}
 use Rattle.ng_ledger.specs.Standing.{InHand, Ledger}
+use Rattle.ng_group.specs.Ending.{Ends}
 use Rattle.ng_group.specs.States.{State}
-use Rattle.ng_group.specs.Steps.{Came}
 
 -- one slot is in the seat, without a block: that of an index in a live group
 pub record HasReturned (v : View) (meta index : ℕ) : Type 0 where
@@ -64,63 +67,94 @@ MayGo keeps s meta found = IsLoose found ⊎ ((spare : Spare) × IsSpare s meta 
 abbrev pub IsKept : {M P : Type 0} → (Spare → Bool → Type 0) → State M P → ℕ → LiveGroup → Type 0
 IsKept keeps s meta found = (¬ IsLoose found) × ((spare : Spare) × IsSpare s meta found spare × keeps spare true)
 
--- the masks of a group were read: freed, and then avail
+-- both masks of a group were read, freed first, and what they tell is noted: nothing else changed
 pub record ReadsBoth (v : View) (meta freed avail : ℕ) (w : View) : Type 0 where
   pub first : ℕ
   pub second : ℕ
   pub freed_is : freed ≡ first % 2 ^ 32
   pub avail_is : avail ≡ second % 2 ^ 32
-  pub readings : w.readings ≡ (v.readings ++ (meta + 28, first) ∷ []) ++ (meta + 24, second) ∷ []
+  pub view : w ≡ read (avail_read (read (freed_read v meta first) (meta + 28) first) meta second) (meta + 24) second
 
--- of the group's meta only the freed mask was read, and no other word
-pub record ReadsFreed (v : View) (meta : ℕ) (w : View) : Type 0 where
-  pub came : Came v w
-  pub freed : AreAt (meta + 28) came.words
+-- both masks were captured, and the answer is whether they and the slot are all slots of the group: where they aren't, they
+-- and the slot are back in their masks, and the group is listed in its ring
+pub record CapturesAll (v : View) (meta index last : ℕ) (answer : Bool) (after : View) : Type 0 where
+  pub avail : ℕ
+  pub freed : ℕ
+  pub between : View
+  pub captures : Captures v meta avail freed between
+  pub fills : IsTrue answer ↔ FillsGroup avail freed index last
+  pub whole : answer ≡ true → after ≡ between
+  pub back : answer ≡ false → SetsCaptured between meta avail freed index after × Among meta v.desk.listed
 
--- both masks were captured, and the answer is whether they and the slot are all slots of the group. The call ends there, or
--- they and the slot are put back
-abbrev pub CapturesAll : View → ℕ → ℕ → ℕ → Bool → View → Type 0
-CapturesAll v meta index last answer after = (avail : ℕ) × (freed : ℕ) × (w : View) × Captures v meta avail freed w
-    × (IsTrue answer ↔ FillsGroup avail freed index last)
-    × (answer ≡ true → after ≡ w) × (answer ≡ false → PutsCaptured w meta avail freed index after)
+-- the group is in its ring; or it came last into it, as was noted by its freed mask. Nothing else changed
+abbrev pub Enlists : {M P : Type 0} → ℕ → ℕ → State M P → State M P → Type 0
+Enlists class meta before after = (IsListed before.rings meta × (after ≡ before))
+    ⊎ ((¬ IsListed before.rings meta) × ((mask : ℕ) × (after ≡ record before {
+      seat = read (ring_read before.seat meta true mask) (meta + 28) mask;
+      rings = entered before.rings class meta;
+    })))
+
+-- the group is in its ring, and then the bit of the slot was set in freed. Nothing else changed
+pub record GoesBack {M P : Type 0} (class meta index : ℕ) (before after : State M P) : Type 0 where
+  pub mid : State M P
+  pub enlists : Enlists class meta before mid
+  pub mask : ℕ
+  pub state : after ≡ record mid { seat = read (bits_pushed mid.seat meta (2 ^ index)) (meta + 28) mask }
 
 -- the slot of that index was returned to a live group whose numbers are found. Its masks were read; where they and the
 -- slot fill the group, and it may go, both were captured, and the answer is whether the captured masks and the slot fill
--- it. Else the slot is in freed again, and no other mask was read or fetched then
-pub record TakesWhole {M P : Type 0} (keeps : Spare → Bool → Type 0) (before : State M P) (meta index : ℕ) (found : LiveGroup) (answer : Bool) (after : View) : Type 0 where
+-- it. Else the slot went back. Nothing else changed
+pub record TakesWhole {M P : Type 0} (keeps : Spare → Bool → Type 0) (before : State M P) (meta index : ℕ) (found : LiveGroup) (answer : Bool) (after : State M P) : Type 0 where
   pub freed : ℕ
   pub avail : ℕ
   pub between : View
   pub reads : ReadsBoth before.seat meta freed avail between
   pub ends : (FillsGroup avail freed index found.last × MayGo keeps before meta found
-      × CapturesAll between meta index found.last answer after)
-      ⊎ ((answer ≡ false) × ReadsFreed between meta after × ((¬ FillsGroup avail freed index found.last) ⊎ IsKept keeps before meta found))
+      × CapturesAll between meta index found.last answer after.seat × (after ≡ record before { seat = after.seat }))
+      ⊎ (((¬ FillsGroup avail freed index found.last) ⊎ IsKept keeps before meta found)
+      × (answer ≡ false) × GoesBack found.class meta index (record before { seat = between }) after)
 
--- a slot of that index was returned to a live group whose numbers are found, and what was read then is of the call's
--- readings. Where its slots were all taken, no live group is of the meta then, and its run, if it had one, is no more the
--- mapper's. Else the same groups live, on the same runs. The counter of runs mapped for groups is as before
-pub record Returns {M P : Type 0} (keeps : Spare → Bool → Type 0) (runs : M → List mapper.Run) (before after : State M P) (meta index : ℕ) (found : LiveGroup) : Type 0 where
-  pub answer : Bool
-  pub taken : View
-  pub takes : TakesWhole keeps before meta index found answer taken
-  pub came : Came taken after.seat
-  pub unborn : answer ≡ true → IsUnborn after.seat.desk.groups meta
-  pub unmapped : answer ≡ true → 0 < found.maplen → ¬ Contains (runs after.mapper) (found.base, found.maplen)
-  pub groups : answer ≡ false → after.seat.desk.groups ≡ before.seat.desk.groups
-  pub stays : answer ≡ false → runs after.mapper ≡ runs before.mapper
-  pub counter : after.counter ≡ before.counter
+-- all slots of the group were taken, and it ended
+pub record TakesAndEnds {M P : Type 0} (keeps : Spare → Bool → Type 0) (runs : M → List mapper.Run) (before : State M P) (meta index : ℕ) (found : LiveGroup) (answer : Option (ℕ × ℕ)) (after : State M P) : Type 0 where
+  pub taken : State M P
+  pub takes : TakesWhole keeps before meta index found true taken
+  pub ends : Ends runs meta found answer taken after
 
--- the same of a slot that a hand had: its group is live, and the words of its meta were read first
-pub record ReturnsOfHand {M P : Type 0} (keeps : Spare → Bool → Type 0) (runs : M → List mapper.Run) (before after : State M P) (meta index : ℕ) : Type 0 where
-  pub group : Group
-  pub there : Among group before.seat.desk.groups
-  pub of_meta : group.meta ≡ meta
+-- the meta has come last among the free ones
+abbrev pub with_free : {M P : Type 0} → State M P → ℕ → State M P
+with_free s meta = record s { stock = record s.stock { returned = s.stock.returned ++ meta ∷ [] } }
+
+-- a slot that carried a group which ended, and the numbers of the group around
+pub record Around : Type 0 where
+  pub meta : ℕ
+  pub index : ℕ
   pub found : LiveGroup
-  pub describes : Describes found group
+
+-- these numbers were read
+abbrev pub ReadsAround : View → Around → View → Type 0
+ReadsAround v around w = ReadsFields v around.meta w × OfGroup w around.meta (Describes around.found)
+
+-- a slot of that index was returned to a live group whose numbers are found. It went back, or the group ended, and its run
+-- with it, and its meta came last among the free ones. Or the group ended, and the slot that carried it was returned in the
+-- same way to the group around, before the meta came there; and so on outwards. No other group or run went
+abbrev pub Returns : {M P : Type 0} → (Spare → Bool → Type 0) → (M → List mapper.Run) → State M P → ℕ → ℕ → LiveGroup → List Around → State M P → Type 0
+Returns {M} {P} keeps runs before meta index found [] after = TakesWhole keeps before meta index found false after
+    ⊎ ((ended : State M P) × TakesAndEnds keeps runs before meta index found None ended × (after ≡ with_free ended meta))
+Returns {M} {P} keeps runs before meta index found (around ∷ more) after = (ended : State M P) × (looked : View) × (back : State M P)
+    × TakesAndEnds keeps runs before meta index found (Some (around.meta, around.index)) ended
+    × ReadsAround ended.seat around looked
+    × Returns keeps runs (record ended { seat = looked }) around.meta around.index around.found more back
+    × (after ≡ with_free back meta)
+
+-- the same of a slot that a hand had: it came into the seat, and the words of its group's meta were read first
+pub record ReturnsOfHand {M P : Type 0} (keeps : Spare → Bool → Type 0) (runs : M → List mapper.Run) (before after : State M P) (meta index : ℕ) : Type 0 where
+  pub found : LiveGroup
   pub looked : View
-  pub came : Came before.seat looked
-  pub desk : looked.desk ≡ before.seat.desk
-  pub returns : Returns keeps runs (record before { seat = looked }) after meta index found
+  pub slot : HasReturned looked meta index
+  pub describes : Describes found slot.group
+  pub reads : ReadsFields (record before.seat { held = looked.held }) meta looked
+  pub around : List Around
+  pub returns : Returns keeps runs (record before { seat = looked }) meta index found around after
 
 -- the meta of a group that ended has come in hand, with its cells known to be 0; the others in hand are the same
 pub record ComesInHand (meta : ℕ) (before after : Ledger) : Type 0 where
@@ -134,7 +168,3 @@ pub record ComesInHand (meta : ℕ) (before after : Ledger) : Type 0 where
 -- the group of that meta, where it is live, is of a class above this one
 abbrev pub IsAbove : ℕ → View → ℕ → Type 0
 IsAbove class v meta = (g : Group) → Among g v.desk.groups → g.meta ≡ meta → class + 1 < g.tag
-
--- groups only went
-abbrev pub AreFewer : View → View → Type 0
-AreFewer v w = (g : Group) → Among g w.desk.groups → Among g v.desk.groups

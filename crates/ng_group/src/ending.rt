@@ -6,8 +6,8 @@ ghost use Rattle.ng_serve.specs.Groups.{Describes};
 ghost use Rattle.ng_ledger.specs.Rings.{left};
 ghost use Rattle.ng_ledger.specs.Usage.{AreUsed};
 ghost use Rattle.ng_view.specs.LockSteps.{groups_but};
-ghost use Rattle.ng_group.specs.Ending.{EndsGroup};
-ghost use Rattle.ng_group.specs.Returning.{AreFewer, ComesInHand, HasReturned, HasWhole, IsAbove};
+ghost use Rattle.ng_group.specs.Ending.{Ends, EndsGroup, LeavesAnyRing, LeavesRing, Unlists};
+ghost use Rattle.ng_group.specs.Returning.{ComesInHand, HasReturned, HasWhole, IsAbove};
 ghost use Rattle.ng_group.specs.Serving.{OnlyRing};
 ghost use Rattle.ng_group.specs.States.{Working, ledger_of};
 ghost use Rattle.ng_group.specs.Steps.{GoesOn, IsCalm};
@@ -36,14 +36,11 @@ impl<N: Name, M: Mapper, P: Rules> Works<N, M, P> {
         ensures on { GoesOn self.old.seat self.new.seat }
         ensures hand { ComesInHand meta (ledger_of self.old) (ledger_of self.new) }
         ensures calm { IsCalm self.old.seat self.new.seat (M.refused self.old.mapper) (M.refused self.new.mapper) }
-        ensures fewer { AreFewer self.old.seat self.new.seat }
         ensures rules { self.new.rules ≡ self.old.rules }
-        ensures counter { self.new.counter ≡ self.old.counter }
+        ensures ends { Ends M.runs meta group.now result self.old self.new }
         ensures slot { IfSome result (λ slot. HasReturned self.new.seat slot.0 slot.1) }
         ensures above { IfSome result (λ slot. IsAbove group.now.class self.new.seat slot.0) }
-        ensures nested { IfSome result (λ slot. group.now.maplen ≡ 0) }
         ensures idle { IfNone result (self.new.seat.held ≡ []) }
-        ensures unmapped { IfNone result (¬ Contains (M.runs self.new.mapper) (group.now.base, group.now.maplen)) }
     {
         self.leave_any_ring(space, meta, group.class);
         self.retire_group(space, meta, group);
@@ -93,6 +90,7 @@ impl<N: Name, M: Mapper, P: Rules> Works<N, M, P> {
         requires class { OfGroup self.old.seat meta (λ g. g.tag ≡ class + 1) }
         ensures working { Working N.facts.start M.span M.runs M.refused self.new }
         ensures only { OnlyRing class self.old self.new }
+        ensures leaves { LeavesAnyRing class meta self.old self.new }
         ensures whole { HasWhole self.new.seat meta }
         ensures left { ¬ IsListed self.new.rings meta }
     {
@@ -111,7 +109,7 @@ impl<N: Name, M: Mapper, P: Rules> Works<N, M, P> {
         requires member { Contains (ring_of self.old.rings class) meta }
         ensures working { Working N.facts.start M.span M.runs M.refused self.new }
         ensures only { OnlyRing class self.old self.new }
-        ensures bounces { self.new.bounces ≡ self.old.bounces }
+        ensures leaves { LeavesRing class meta self.old self.new }
         ensures whole { HasWhole self.new.seat meta }
         ensures left { ¬ IsListed self.new.rings meta }
     {
@@ -133,7 +131,7 @@ impl<N: Name, M: Mapper, P: Rules> Works<N, M, P> {
         requires member { Contains (ring_of self.old.rings class) meta }
         ensures working { Working N.facts.start M.span M.runs M.refused self.new }
         ensures only { OnlyRing class self.old self.new }
-        ensures bounces { self.new.bounces ≡ self.old.bounces }
+        ensures unlists { Unlists class meta self.old self.new }
         ensures whole { HasWhole self.new.seat meta }
         ensures rings { self.new.rings ≡ left self.old.rings class meta }
         ensures avail { self.new.seat.desk.zero_avail ≡ self.old.seat.desk.zero_avail }

@@ -1,5 +1,5 @@
 // Slots returned under the lock.
-ghost use Rattle.std.specs.Prelude.{◌≡◌, ◌+◌, ◌<◌, ◌≤◌, ◌↔◌, ◌⊎◌, [], IsTrue, true, false};
+ghost use Rattle.std.specs.Prelude.{◌≡◌, ◌+◌, ◌<◌, ◌≤◌, ◌↔◌, ◌⊎◌, [], IsTrue, List, true, false};
 ghost use Rattle.ng_class.specs.Mask.{FillsGroup};
 ghost use Rattle.ng_meta.specs.Place.{IsMetaPlace};
 ghost use Rattle.ng_policy.specs.Ask.{SpareInRange};
@@ -13,7 +13,7 @@ ghost use Rattle.ng_ledger.specs.Groups.{IsOfClass};
 ghost use Rattle.ng_ledger.specs.Standing.{KeepsHand};
 ghost use Rattle.ng_serve.specs.Takes.{IsServed};
 ghost use Rattle.ng_group.specs.Filling.{AreSlots, LooksAt, Searches};
-ghost use Rattle.ng_group.specs.Returning.{AreFewer, CapturesAll, HasReturned, HasWhole, IsKept, IsSpare, MayGo, ReadsFreed, Returns, TakesWhole};
+ghost use Rattle.ng_group.specs.Returning.{Around, CapturesAll, Enlists, GoesBack, HasReturned, HasWhole, IsKept, IsSpare, MayGo, Returns, TakesWhole};
 ghost use Rattle.ng_group.specs.Serving.{OnlyRing};
 ghost use Rattle.ng_group.specs.States.{Working, ledger_of};
 ghost use Rattle.ng_group.specs.Steps.{GoesOn, IsCalm};
@@ -39,8 +39,7 @@ impl<N: Name, M: Mapper, P: Rules> Works<N, M, P> {
         ensures hand { KeepsHand (ledger_of self.old) (ledger_of self.new) }
         ensures calm { IsCalm self.old.seat self.new.seat (M.refused self.old.mapper) (M.refused self.new.mapper) }
         ensures idle { self.new.seat.held ≡ [] }
-        ensures fewer { AreFewer self.old.seat self.new.seat }
-        ensures returns { Returns (P.keep_gives self.old.rules) M.runs self.old self.new meta index group.now }
+        ensures returns { (around : List Around) × Returns (P.keep_gives self.old.rules) M.runs self.old meta index group.now around self.new }
         ensures rules { self.new.rules ≡ self.old.rules }
     {
         if !self.take_whole(space, meta, index, group) {
@@ -65,7 +64,7 @@ impl<N: Name, M: Mapper, P: Rules> Works<N, M, P> {
         ensures only { OnlyRing group.now.class self.old self.new }
         ensures whole { IsTrue result → HasWhole self.new.seat meta }
         ensures idle { result ≡ false → self.new.seat.held ≡ [] }
-        ensures takes { TakesWhole (P.keep_gives self.old.rules) self.old meta index group.now result self.new.seat }
+        ensures takes { TakesWhole (P.keep_gives self.old.rules) self.old meta index group.now result self.new }
     {
         let masks = read_masks(space, &mut self.seat, meta);
         if !self.may_end(meta, index, group, masks) {
@@ -139,7 +138,7 @@ impl<N: Name, M: Mapper, P: Rules> Works<N, M, P> {
         ensures only { OnlyRing class self.old self.new }
         ensures bounces { self.new.bounces ≡ self.old.bounces }
         ensures idle { self.new.seat.held ≡ [] }
-        ensures reads { ReadsFreed self.old.seat meta self.new.seat }
+        ensures back { GoesBack class meta index self.old self.new }
     {
         self.enlist(space, meta, class);
         put_slot(space, &mut self.seat, meta, index);
@@ -156,7 +155,7 @@ impl<N: Name, M: Mapper, P: Rules> Works<N, M, P> {
         ensures bounces { self.new.bounces ≡ self.old.bounces }
         ensures listed { Among meta self.new.seat.desk.listed }
         ensures held { self.new.seat.held ≡ self.old.seat.held }
-        ensures reads { ReadsFreed self.old.seat meta self.new.seat }
+        ensures enlists { Enlists class meta self.old self.new }
     {
         self.rings.stand_once();
         if self.rings.has(meta) {

@@ -12,7 +12,7 @@ use Rattle.ng_view.specs.declared.view.View.{View}
 use Rattle.ng_view.specs.Fetches.{HasGroup, PushesFreed, StocksAvail}
 use Rattle.ng_mask.proofs.Motion.{SplitsInto}
 use Rattle.ng_mask.specs.Fetches.{Stocks, Takes}
-use Rattle.ng_serve.specs.Reads.{AreAt, Reads}
+use Rattle.ng_serve.specs.Reads.{Reads}
 use Rattle.ng_serve.specs.Takes.{ChangesMasks, with_masks}
 use Rattle.ng_serve.proofs.Readings.{among_if}
 
@@ -133,9 +133,3 @@ changes_pushed v w meta bits n pushes = record {
   zero_freed = λ m ne s. subst (λ (x : View). Among m x.desk.zero_freed) (sym pushes.view) (others_keep meta m v.desk.zero_freed ne s);
   set_freed = λ m i ne s. subst (λ (x : View). Among {A = ℕ × ℕ} (m, i) x.desk.set_freed) (sym pushes.view) s;
 }
-
--- of which freed alone was read
-pub pushed_freed : (v w : View) (meta bits n : ℕ) (pushes : PushesFreed v meta bits n w) → AreAt (meta + 28) (changes_pushed v w meta bits n pushes).words
-unfolding changes_pushed
-pushed_freed v w meta bits n pushes word (inl e) = ap (λ (p : ℕ × ℕ). p.0) e
-pushed_freed v w meta bits n pushes word (inr s) = elim s [ ]

@@ -14,11 +14,13 @@ use Rattle.ng_view.specs.declared.view.Group.{Group}
 use Rattle.ng_view.specs.declared.view.View.{View}
 use Rattle.ng_view.specs.Fetches.{HasGroup}
 use Rattle.ng_view.specs.Masks.{IsServing, TellsFreed}
-use Rattle.ng_mask.specs.Fetches.{MayStock, Stocks, Takes, slots_of}
+use Rattle.ng_mask.specs.Fetches.{MayStock, OfGroup, Stocks, Takes, slots_of}
 use Rattle.ng_mask.proofs.Bits.{rest_of, rest_splits}
 use Rattle.ng_mask.proofs.Motion.{SplitsInto, bits_of-pow, others_are_left, part_is_out}
 use Rattle.ng_serve.specs.Reads.{Reads}
+use Rattle.ng_serve.specs.Groups.{Describes, ReadsFields, ReadsIndex}
 use Rattle.ng_serve.specs.Takes.{ChangesMasks, HasFreed, StocksFreed, TakesFreed}
+use Rattle.ng_serve.specs.declared.group.LiveGroup.{LiveGroup}
 use Rattle.ng_serve.proofs.Fields.{lives_then}
 use Rattle.ng_serve.proofs.Readings.{reads_then}
 use Rattle.ng_serve.proofs.Changes.{all_of, changes_groups, changes_listed, changes_reads, changes_stocked, changes_taken, changes_then, stocked_held}
@@ -123,11 +125,12 @@ module _ (v u : View) (meta upto taken : ℕ) (has : HasGroup v meta) (takes : T
   pub may_stock_all : Among meta v.desk.zero_avail → MayStock u meta taken
   may_stock_all bare = may_stock taken 0 (λ more. more) (all_of taken) bare
 
-  pub stocks_all : (w : View) → (taken ≡ 0 → w ≡ u) → (0 < taken → Stocks u meta taken w) → StocksFreed v meta w
-  stocks_all w none some = record {
-    changes = then_changes w taken 0 (all_of taken) none some;
-    held = then_held w taken 0 (all_of taken) none some has.group has.there has.of_meta;
-  }
+  module _ (w : View) (none : taken ≡ 0 → w ≡ u) (some : 0 < taken → Stocks u meta taken w) where
+    pub all_changes : ChangesMasks v meta w
+    all_changes = then_changes w taken 0 (all_of taken) none some
+
+    pub all_held : w.held ≡ v.held
+    all_held = then_held w taken 0 (all_of taken) none some has.group has.there has.of_meta
 
 -- ---- the lowest bit of a mask that isn't 0
 pub some_lowest : (answer : Option ℕ) (mask : ℕ) → 0 < mask → (IsNone answer → mask ≡ 0) → IsSome answer
@@ -138,11 +141,23 @@ pub lowest_of : (answer : Option ℕ) (mask index : ℕ) → answer ≡ Some ind
 lowest_of answer mask index is low = subst (λ (o : Option ℕ). IfSome o (IsLowestBit mask)) is low
 
 -- ---- freed slots in use are stocked, after two readings
-pub stocks_then : (v r s u w : View) (meta upto taken : ℕ) → HasGroup v meta → Reads v r → Reads r s → Takes s meta upto taken u → (taken ≡ 0 → w ≡ u) → (0 < taken → Stocks u meta taken w) → StocksFreed v meta w
-stocks_then v r s u w meta upto taken has first second takes none some =
+pub stocks_then : (v r s u w : View) (meta upto taken : ℕ) (found : LiveGroup) → HasGroup v meta → OfGroup v meta (Describes found) → ReadsFields v meta r → Reads v r
+    → ReadsIndex r found.base upto s → Reads r s → Takes s meta upto taken u → (taken ≡ 0 → w ≡ u) → (0 < taken → Stocks u meta taken w) → StocksFreed v meta w
+stocks_then v r s u w meta upto taken found has of names first looks second takes none some =
     let reads = reads_then v r s first second in
-    let stocks = stocks_all s u meta upto taken (lives_then v s meta reads has) takes w none some in
+    let lives = lives_then v s meta reads has in
     record {
-      changes = changes_then v s w meta (changes_reads v s meta reads) stocks.changes;
-      held = stocks.held ∙ ap (λ (x : View). x.held) reads.view;
+      steps = record {
+        upto = upto;
+        taken = taken;
+        named = r;
+        looked = s;
+        between = u;
+        names = names;
+        looks = λ g there of_meta. subst (λ b. ReadsIndex r b upto s) (sym (of g there of_meta).base) looks;
+        takes = takes;
+        stocks = (none, some);
+      };
+      changes = changes_then v s w meta (changes_reads v s meta reads) (all_changes s u meta upto taken lives takes w none some);
+      held = all_held s u meta upto taken lives takes w none some ∙ ap (λ (x : View). x.held) reads.view;
     }

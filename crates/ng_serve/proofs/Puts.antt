@@ -11,20 +11,21 @@ use Rattle.ng_view.specs.declared.view.View.{View}
 use Rattle.ng_view.specs.Fetches.{MayPutBack, PushesFreed}
 use Rattle.ng_mask.specs.Fetches.{MayStock, Stocks, slots_of}
 use Rattle.ng_mask.proofs.Motion.{bits_of-pow, others_are_left, part_is_out}
-use Rattle.ng_serve.specs.Takes.{ChangesMasks, HasBare, HasCaptured, IsServed, PutsBits, PutsCaptured, PutsSlot}
-use Rattle.ng_serve.proofs.Changes.{all_of, changes_groups, changes_listed, changes_pushed, changes_stocked, changes_then, pushed_freed, stocked_held}
+use Rattle.ng_serve.specs.Takes.{ChangesMasks, HasBare, HasCaptured, IsServed, Pushes, PutsBits, PutsCaptured, PutsSlot}
+use Rattle.ng_serve.proofs.Changes.{all_of, changes_groups, changes_listed, changes_pushed, changes_stocked, changes_then, stocked_held}
 
 -- ---- bits are set, or there are none
-pub puts_bits : (v w : View) (meta bits n : ℕ) → PushesFreed v meta bits n w → PutsBits v meta bits w
-puts_bits v w meta bits n pushes = record {
+pub puts_bits : (v w : View) (meta bits n : ℕ) → (bits ≡ 0 → ⊥) → PushesFreed v meta bits n w → PutsBits v meta bits w
+puts_bits v w meta bits n more pushes = record {
+  sets = (λ none. absurd (more none), λ some. record { mask = n; view = pushes.view });
   changes = changes_pushed v w meta bits n pushes;
   avail = ap (λ (x : View). x.desk.zero_avail) pushes.view;
   held = ap (λ (x : View). x.held) pushes.view;
-  freed = pushed_freed v w meta bits n pushes;
 }
 
 pub puts_none : (v : View) (meta bits : ℕ) → bits ≡ 0 → PutsBits v meta bits v
 puts_none v meta bits none = subst (λ n. PutsBits v meta n v) (sym none) (record {
+  sets = (λ zero. refl, λ some. absurd (omega (arith, some)));
   changes = record {
     words = [];
     view = ap (λ (l : List (ℕ × ℕ)). record v { readings = l }) (sym (append-nil v.readings));
@@ -34,7 +35,6 @@ puts_none v meta bits none = subst (λ n. PutsBits v meta n v) (sym none) (recor
   };
   avail = refl;
   held = refl;
-  freed = λ word s. elim s [ ];
 })
 
 pub some_bits : (bits : ℕ) → (bits ≡ 0 → ⊥) → 0 < bits
@@ -60,12 +60,12 @@ may_put_slot v meta index served slot = subst (MayPutBack v meta) (sym (is_pow i
 
 pub puts_slot : (v w : View) (meta index : ℕ) → HasBare v.held meta index → PutsBits v meta (one_bit index) w → PutsSlot v meta index w
 puts_slot v w meta index slot puts = record {
+  pushes = subst (λ n. Pushes v meta n w) (is_pow index slot.few) (puts.sets.1 (subst (λ n. 0 < n) (sym (is_pow index slot.few)) (pow_pos index)));
   changes = puts.changes;
   avail = puts.avail;
   held = puts.held
       ∙ ap (λ n. let_go meta (bits_of n) v.held) (is_pow index slot.few)
       ∙ ap (λ (is : List ℕ). let_go meta is v.held) (bits_of-pow index slot.few);
-  freed = puts.freed;
 }
 
 -- ---- all slots of a mask, in front of others
@@ -134,6 +134,7 @@ module _ (v u t : View) (meta avail freed index : ℕ) (served : IsServed v meta
 
       pub puts_captured : (w : View) → PutsSlot t meta index w → PutsCaptured v meta avail freed index w
       puts_captured w puts_last = record {
+        sets = record { first = u; second = t; freed_back = puts.sets; avail_back = (none, some); slot_back = puts_last.pushes };
         changes = changes_then v t w meta (changes_then v u t meta puts.changes stocked) puts_last.changes;
         bare = λ empty. puts_last.avail ∙ ap (λ (x : View). x.desk.zero_avail) (none empty) ∙ puts.avail;
         held = λ c. puts_last.held ∙ ap (without meta index) (after_avail c);

@@ -8,10 +8,6 @@ pub record Reads (v w : View) : Type 0 where
   pub words : List (ℕ × ℕ)
   pub view : w ≡ record v { readings = v.readings ++ words }
 
--- each of these words was read at that address
-abbrev pub AreAt : ℕ → List (ℕ × ℕ) → Type 0
-AreAt a words = (word : ℕ × ℕ) → Among {A = ℕ × ℕ} word words → word.0 ≡ a
-
 -- the view with other notes of masks, and these readings more
 abbrev pub with_notes : View → View → List (ℕ × ℕ) → View
 with_notes v w words = record v {

@@ -1,14 +1,15 @@
 -- Slots of a group that come out of its freed mask, and go into its masks again.
-use Rattle.std.specs.Prelude.{◌≡◌, ◌≢◌, ℕ, ◌+◌, ◌<◌, ◌≤◌, List, ◌∷◌, ◌++◌, Some, None}
+use Rattle.std.specs.Prelude.{◌≡◌, ◌≢◌, ℕ, ◌+◌, ◌^◌, ◌<◌, ◌≤◌, List, ◌∷◌, ◌++◌, Some, None}
 use Rattle.ng_view.specs.Lists.{Among, find, without}
-use Rattle.ng_view.specs.LockSteps.{bits_of, let_go}
+use Rattle.ng_view.specs.LockSteps.{bits_of, bits_pushed, let_go}
 use Rattle.ng_view.specs.Slots.{IsPlain}
-use Rattle.ng_view.specs.Steps.{in_motion}
+use Rattle.ng_view.specs.Steps.{in_motion, read}
 use Rattle.ng_view.specs.declared.view.Group.{Group}
 use Rattle.ng_view.specs.declared.view.Held.{Held}
 use Rattle.ng_view.specs.declared.view.View.{View}
-use Rattle.ng_mask.specs.Fetches.{OfGroup, slots_of}
-use Rattle.ng_serve.specs.Reads.{AreAt, with_notes}
+use Rattle.ng_mask.specs.Fetches.{OfGroup, Stocks, Takes, slots_of}
+use Rattle.ng_serve.specs.Groups.{ReadsFields, ReadsIndex}
+use Rattle.ng_serve.specs.Reads.{with_notes}
 
 -- the view with other slots, other notes of masks, and these readings more
 abbrev pub with_masks : View → View → List (ℕ × ℕ) → View
@@ -23,6 +24,19 @@ pub record ChangesMasks (v : View) (meta : ℕ) (w : View) : Type 0 where
   pub set_freed : (m i : ℕ) → m ≢ meta → Among {A = ℕ × ℕ} (m, i) v.desk.set_freed
       → Among {A = ℕ × ℕ} (m, i) w.desk.set_freed
 
+-- these bits were set in freed: their slots are out of the seat
+pub record Pushes (v : View) (meta bits : ℕ) (w : View) : Type 0 where
+  pub mask : ℕ
+  pub view : w ≡ read (bits_pushed v meta bits) (meta + 28) mask
+
+-- these bits, if there are any, were set in freed
+abbrev pub SetsFreed : View → ℕ → ℕ → View → Type 0
+SetsFreed v meta bits w = (bits ≡ 0 → w ≡ v) × (0 < bits → Pushes v meta bits w)
+
+-- these bits, if there are any, were set in avail
+abbrev pub SetsAvail : View → ℕ → ℕ → View → Type 0
+SetsAvail v meta bits w = (bits ≡ 0 → w ≡ v) × (0 < bits → Stocks v meta bits w)
+
 -- some slot up to an index is noted as freed
 pub record HasFreed (v : View) (meta upto : ℕ) : Type 0 where
   pub index : ℕ
@@ -36,18 +50,30 @@ pub record TakesFreed (v : View) (meta index : ℕ) (w : View) : Type 0 where
   pub plain : OfGroup v meta IsPlain
   pub within : OfGroup v meta (λ g. index ≤ g.last)
 
--- the seat has the slots that it had
+-- the highest index in use of a live group was read; the freed bits up to it were taken, and set in avail
+pub record StocksInUse (v : View) (meta : ℕ) (w : View) : Type 0 where
+  pub upto : ℕ
+  pub taken : ℕ
+  pub named : View
+  pub looked : View
+  pub between : View
+  pub names : ReadsFields v meta named
+  pub looks : OfGroup v meta (λ g. ReadsIndex named g.base upto looked)
+  pub takes : Takes looked meta upto taken between
+  pub stocks : SetsAvail between meta taken w
+
+-- so the seat has the slots that it had
 pub record StocksFreed (v : View) (meta : ℕ) (w : View) : Type 0 where
+  pub steps : StocksInUse v meta w
   pub changes : ChangesMasks v meta w
   pub held : w.held ≡ v.held
 
--- the slots of these bits, if there are any, are out of the seat; of avail nothing changes, and only the freed mask was
--- read
+-- so the slots of these bits are out of the seat, and of avail nothing changes
 pub record PutsBits (v : View) (meta bits : ℕ) (w : View) : Type 0 where
+  pub sets : SetsFreed v meta bits w
   pub changes : ChangesMasks v meta w
   pub avail : w.desk.zero_avail ≡ v.desk.zero_avail
   pub held : w.held ≡ let_go meta (bits_of bits) v.held
-  pub freed : AreAt (meta + 28) changes.words
 
 -- a live group of that meta may have slots in its masks: its slots have the whole size of a class
 -- below 48, and it is listed
@@ -65,12 +91,12 @@ pub record HasBare (held : List Held) (meta index : ℕ) : Type 0 where
   pub found : find meta index held ≡ Some slot
   pub bare : slot.block ≡ None
 
--- the slot is out of the seat; of avail nothing changes, and only the freed mask was read
+-- the bit of the slot was set in freed: it is out of the seat, and of avail nothing changes
 pub record PutsSlot (v : View) (meta index : ℕ) (w : View) : Type 0 where
+  pub pushes : Pushes v meta (2 ^ index) w
   pub changes : ChangesMasks v meta w
   pub avail : w.desk.zero_avail ≡ v.desk.zero_avail
   pub held : w.held ≡ without meta index v.held
-  pub freed : AreAt (meta + 28) changes.words
 
 -- in front of other slots, one of which is this, stand those of two masks that were captured
 pub record HasCaptured (v : View) (meta avail freed index : ℕ) : Type 0 where
@@ -80,8 +106,17 @@ pub record HasCaptured (v : View) (meta avail freed index : ℕ) : Type 0 where
   pub held : v.held ≡ slots_of group freed ++ (slots_of group avail ++ before)
   pub slot : HasBare before meta index
 
--- the captured slots and that one are out of the seat; of avail nothing changes where its mask was 0
+-- captured bits were set again, those of freed and then those of avail, and then the bit of that slot in freed
+pub record SetsCaptured (v : View) (meta avail freed index : ℕ) (w : View) : Type 0 where
+  pub first : View
+  pub second : View
+  pub freed_back : SetsFreed v meta freed first
+  pub avail_back : SetsAvail first meta avail second
+  pub slot_back : Pushes second meta (2 ^ index) w
+
+-- so the captured slots and that one are out of the seat; of avail nothing changes where its mask was 0
 pub record PutsCaptured (v : View) (meta avail freed index : ℕ) (w : View) : Type 0 where
+  pub sets : SetsCaptured v meta avail freed index w
   pub changes : ChangesMasks v meta w
   pub bare : avail ≡ 0 → w.desk.zero_avail ≡ v.desk.zero_avail
   pub held : (c : HasCaptured v meta avail freed index) → w.held ≡ without meta index c.before

@@ -1,5 +1,5 @@
 use Rattle.ng_class.specs.Mask.{FillsGroup}
-use Rattle.ng_group.proofs.WholeLemmas.{avail_captured, freed_captured, idle_back, may_captured, searches_back, searches_captured, served_captured, whole_captured}
+use Rattle.ng_group.proofs.WholeLemmas.{all_captured, avail_captured, back_captured, freed_captured, idle_back, may_captured, searches_back, searches_captured, served_captured, whole_captured}
 use Rattle.ng_group.proofs.returning.capture_all.Goals as goal
 
 pub fills-requires-clause-avail : goal.fills-requires-clause-avail
@@ -27,3 +27,11 @@ returns-clause-searches g c = searches_back _ _ c.args.meta c.args.index c.args.
 
 pub returns-clause-idle : goal.returns-clause-idle
 returns-clause-idle g c = λ not. idle_back _ _ c.args.meta c.args.index c.args.last _ _ c.requires.few c.requires.slot c.requires.last c.capture-masks.ensures.captured c.put_captured.new.seat c.put_captured.ensures
+
+pub returns-then-fills-clause-captured : goal.returns-then-fills-clause-captured
+returns-then-fills-clause-captured g c = all_captured _ _ c.args.meta c.args.index c.args.last _ _ c.requires.few c.requires.slot c.requires.last c.capture-masks.ensures.captured (c.fills.ensures.0 c.if-fills.true)
+
+pub returns-clause-captured : goal.returns-clause-captured
+returns-clause-captured g c =
+    let rest : ¬ FillsGroup c.capture-masks.result.0 c.capture-masks.result.1 c.args.index c.args.last = λ fills. let is = c.fills.ensures.1 fills in let not = c.if-fills.false in cc in
+    back_captured _ _ c.args.meta c.args.index c.args.last _ _ c.requires.few c.requires.slot c.requires.last c.capture-masks.ensures.captured c.put_captured.new.seat c.put_captured.ensures rest c.requires.served

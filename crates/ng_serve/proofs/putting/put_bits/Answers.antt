@@ -5,7 +5,7 @@ pub push_parent-requires-clause-slots : goal.push_parent-requires-clause-slots
 push_parent-requires-clause-slots g c = c.requires.may (some_bits c.args.bits c.if-bits-ne0.true)
 
 pub returns-then-bits-ne0 : goal.returns-then-bits-ne0
-returns-then-bits-ne0 g c = puts_bits _ _ c.args.meta c.args.bits _ c.push_parent.ensures
+returns-then-bits-ne0 g c = puts_bits _ _ c.args.meta c.args.bits _ c.if-bits-ne0.true c.push_parent.ensures
 
 pub returns-else-bits-ne0 : goal.returns-else-bits-ne0
 returns-else-bits-ne0 g c = puts_none _ c.args.meta c.args.bits c.if-bits-ne0.false

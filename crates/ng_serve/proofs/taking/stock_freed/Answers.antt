@@ -19,4 +19,4 @@ stock-requires-clause-may g c =
     (bare_then _ _ c.args.meta c.active_index-active.ensures.reads (bare_then _ _ c.args.meta c.group_of-group.ensures.reads c.requires.bare))
 
 pub returns : goal.returns
-returns g c = stocks_then _ _ _ _ _ c.args.meta c.active_index-active.result _ c.requires.live c.group_of-group.ensures.reads c.active_index-active.ensures.reads c.take-taken.ensures.taken c.stock.ensures.none c.stock.ensures.stocked
+returns g c = stocks_then _ _ _ _ _ c.args.meta c.active_index-active.result _ c.group_of-group.result c.requires.live c.group_of-group.ensures.group c.group_of-group.ensures.loads c.group_of-group.ensures.reads c.active_index-active.ensures.index c.active_index-active.ensures.reads c.take-taken.ensures.taken c.stock.ensures.none c.stock.ensures.stocked

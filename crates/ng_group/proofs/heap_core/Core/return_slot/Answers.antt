@@ -41,7 +41,7 @@ pub returns-clause-returns : goal.returns-clause-returns
 returns-clause-returns g c =
     let same = ap (λ (x : Inside g.row.N.Denot g.row.M.Denot g.row.P.Denot). x.works) c.self-inside.view_is ∙ c.self.view_is in
     let rest = subst (λ (s : State g.row.M.Denot g.row.P.Denot). Resting g.N.Name.facts.start g.M.Mapper.span g.M.Mapper.runs g.M.Mapper.refused s) c.self.view_is c.self.invariant.0 in
-    hand_returns g.N.Name.facts.start g.M.Mapper.span g.M.Mapper.runs g.M.Mapper.refused same rest c.args.hand.now c.args.slot c.requires.slot c.slot_to_seat.new.seat c.group_of_slot-group.new.seat c.slot_to_seat.ensures.seat c.meta-meta.result c.index-index.result c.meta-meta.ensures.meta c.index-index.ensures.index c.group_of_slot-group.ensures.reads c.group_of_slot-group.ensures.slots c.seat_return.new.self g.P.Rules.keep_gives c.group_of_slot-group.result c.group_of_slot-group.ensures.group c.seat_return.ensures.returns
+    hand_returns g.N.Name.facts.start g.M.Mapper.span g.M.Mapper.runs g.M.Mapper.refused same rest c.args.hand.now c.args.slot c.requires.slot c.slot_to_seat.new.seat c.group_of_slot-group.new.seat c.slot_to_seat.ensures.seat c.meta-meta.result c.index-index.result c.meta-meta.ensures.meta c.index-index.ensures.index c.group_of_slot-group.ensures.reads c.group_of_slot-group.ensures.slots c.seat_return.new.self g.P.Rules.keep_gives c.group_of_slot-group.result c.group_of_slot-group.ensures.group c.group_of_slot-group.ensures.loads c.seat_return.ensures.returns
 
 pub returns-clause-on : goal.returns-clause-on
 returns-clause-on g c =

@@ -1,13 +1,7 @@
 use Rattle.std.proofs.Common.{ap, ◌∙◌, arith}
-use Rattle.ng_group.specs.States.{State}
-use Rattle.ng_group.proofs.RecursionLemmas.{absent_at, around_above, around_returned, came_read, describes_read, describes_searched, ends, fewer_at, fewer_read, fewer_then, has_ended, keeps_read, keeps_same, keeps_then, keeps_told, only_fewer, only_keeps, place_at, returns_back, returns_run, returns_slot}
-use Rattle.ng_group.proofs.WorkingLemmas.{came_then}
+use Rattle.ng_group.specs.States.{State, ledger_of}
+use Rattle.ng_group.proofs.RecursionLemmas.{absent_at, around_above, around_returned, describes_read, describes_searched, ends, has_ended, keeps_read, keeps_same, keeps_then, keeps_told, only_keeps, place_at, place_of, returns_back, returns_run, returns_slot}
 use Rattle.ng_group.proofs.works.Works.+seat_return.Goals as goal
-
-pub returns-then-not-take_whole-clause-returns : goal.returns-then-not-take_whole-clause-returns
-returns-then-not-take_whole-clause-returns g t c =
-    returns_back (g.P.Rules.keep_gives c.args.self.now.rules) g.M.Mapper.runs c.args.group.now.class c.args.self.now c.take_whole.new.self c.args.meta c.args.index c.args.group.now
-    c.take_whole.result c.if-not-take_whole.true c.take_whole.ensures.takes c.take_whole.ensures.only
 
 pub end_group-requires-clause-group : goal.end_group-requires-clause-group
 end_group-requires-clause-group g t c =
@@ -50,16 +44,11 @@ returns-in_default-clause-hand g t c =
     let keeps = keeps_same g.N.Name.facts.start g.M.Mapper.span g.M.Mapper.runs g.M.Mapper.refused c.end_group.new.self c.end_group.ensures.working in
     (ends g.N.Name.facts.start g.M.Mapper.span g.M.Mapper.runs g.M.Mapper.refused c.args.self.now c.take_whole.new.self c.end_group.new.self c.end_group.new.self c.args.meta kept whole c.end_group.ensures.on c.end_group.ensures.hand keeps c.self.view_is c.put.ensures.appended).hand
 
-pub returns-in_default-clause-fewer : goal.returns-in_default-clause-fewer
-returns-in_default-clause-fewer g t c =
-    let searched = only_fewer c.args.group.now.class c.args.self.now c.take_whole.new.self c.take_whole.ensures.only in
-    let fewer = fewer_then c.args.self.now.seat c.take_whole.new.self.seat c.end_group.new.self.seat searched c.end_group.ensures.fewer in
-    fewer_at c.args.self.now.seat c.self.view_is fewer
-
-pub returns-in_default-clause-returns : goal.returns-in_default-clause-returns
-returns-in_default-clause-returns g t c =
-    returns_run (g.P.Rules.keep_gives c.args.self.now.rules) g.M.Mapper.runs c.args.self.now c.args.meta c.args.index c.args.group.now c.take_whole.result c.take_whole.new.self.seat c.if-not-take_whole.false c.take_whole.ensures.takes c.put.new.self c.self.view_is c.end_group.ensures.on.came c.end_group.ensures.hand.unborn c.in_default.ensures.unmapped
-    (c.end_group.ensures.counter ∙ ap (λ (s : State g.row.M.Denot g.row.P.Denot). s.counter) c.take_whole.ensures.only.state)
+pub group_of-carrying-requires-clause-place : goal.group_of-carrying-requires-clause-place
+group_of-carrying-requires-clause-place g t c =
+    let has = c.in-Some.ensures.slot in
+    let s = c.end_group.new.self in
+    place_of g.N.Name.facts.start (g.M.Mapper.span s.mapper) (g.M.Mapper.runs s.mapper) (g.M.Mapper.refused s.mapper) (ledger_of s) has.group c.in-Some.parent c.end_group.ensures.working has.there has.of_meta
 
 pub seat_return-requires : goal.seat_return-requires
 seat_return-requires g t c κs within =
@@ -116,20 +105,19 @@ returns-clause-hand g t c =
     let keeps = keeps_then g.N.Name.facts.start g.M.Mapper.span g.M.Mapper.runs g.M.Mapper.refused c.end_group.new.self _ c.seat_return.new.self reads back in
     (ends g.N.Name.facts.start g.M.Mapper.span g.M.Mapper.runs g.M.Mapper.refused c.args.self.now c.take_whole.new.self c.end_group.new.self c.seat_return.new.self c.args.meta kept whole c.end_group.ensures.on c.end_group.ensures.hand keeps c.self-2.view_is c.put-2.ensures.appended).hand
 
-pub returns-clause-fewer : goal.returns-clause-fewer
-returns-clause-fewer g t c =
-    let searched = only_fewer c.args.group.now.class c.args.self.now c.take_whole.new.self c.take_whole.ensures.only in
-    let fewer = fewer_then c.args.self.now.seat c.take_whole.new.self.seat c.end_group.new.self.seat searched c.end_group.ensures.fewer in
-    let later = fewer_then c.end_group.new.self.seat c.group_of-carrying.new.seat c.seat_return.new.self.seat (fewer_read c.group_of-carrying.new.seat c.self.view_is c.group_of-carrying.ensures.reads) c.seat_return.ensures.fewer in
-    fewer_at c.args.self.now.seat c.self-2.view_is (fewer_then c.args.self.now.seat c.end_group.new.self.seat c.seat_return.new.self.seat fewer later)
+pub returns-then-not-take_whole-clause-returns : goal.returns-then-not-take_whole-clause-returns
+returns-then-not-take_whole-clause-returns g t c =
+    returns_back (g.P.Rules.keep_gives c.args.self.now.rules) g.M.Mapper.runs c.args.self.now c.take_whole.new.self c.args.meta c.args.index c.args.group.now
+    c.take_whole.result c.if-not-take_whole.true c.take_whole.ensures.takes
+
+pub returns-in_default-clause-returns : goal.returns-in_default-clause-returns
+returns-in_default-clause-returns g t c =
+    returns_run g.P.Rules.keep_gives g.M.Mapper.runs c.args.self.now c.take_whole.new.self c.args.meta c.args.index c.args.group.now c.take_whole.result c.if-not-take_whole.false c.take_whole.ensures.takes
+    c.put.new.self c.self.view_is c.put.ensures.appended c.in_default.ensures.ends
 
 pub returns-clause-returns : goal.returns-clause-returns
 returns-clause-returns g t c =
-    let came = came_then c.take_whole.new.self.seat c.end_group.new.self.seat c.seat_return.new.self.seat c.end_group.ensures.on.came
-    (came_then c.end_group.new.self.seat c.group_of-carrying.new.seat c.seat_return.new.self.seat (came_read c.group_of-carrying.new.seat c.self.view_is c.group_of-carrying.ensures.reads) c.seat_return.ensures.on.came) in
-    let later = fewer_then c.end_group.new.self.seat c.group_of-carrying.new.seat c.seat_return.new.self.seat (fewer_read c.group_of-carrying.new.seat c.self.view_is c.group_of-carrying.ensures.reads) c.seat_return.ensures.fewer in
-    returns_slot (g.P.Rules.keep_gives c.args.self.now.rules) g.M.Mapper.runs c.args.self.now c.args.meta c.args.index c.args.group.now c.take_whole.result c.take_whole.new.self.seat c.if-not-take_whole.false c.take_whole.ensures.takes c.put-2.new.self c.end_group.new.self.seat c.self-2.view_is came c.end_group.ensures.hand.unborn later c.in-Some.ensures.nested
-    (c.seat_return.ensures.returns.counter
-    ∙ ap (λ (s : State g.row.M.Denot g.row.P.Denot). s.counter) c.self.view_is
-    ∙ c.end_group.ensures.counter
-    ∙ ap (λ (s : State g.row.M.Denot g.row.P.Denot). s.counter) c.take_whole.ensures.only.state)
+    returns_slot g.P.Rules.keep_gives g.M.Mapper.runs c.args.self.now c.take_whole.new.self c.args.meta c.args.index c.args.group.now c.take_whole.result c.if-not-take_whole.false c.take_whole.ensures.takes
+    c.put-2.new.self c.in-Some.parent c.in-Some.place c.group_of-carrying.result c.group_of-carrying.new.seat c.self.view_is c.in-Some.ensures.ends
+    (c.end_group.ensures.rules ∙ ap (λ (s : State g.row.M.Denot g.row.P.Denot). s.rules) c.take_whole.ensures.only.state)
+    c.group_of-carrying.ensures.loads c.group_of-carrying.ensures.reads c.group_of-carrying.ensures.group c.seat_return.ensures.returns c.self-2.view_is c.put-2.ensures.appended

@@ -1,7 +1,7 @@
 use Rattle.std.proofs.Common.{ap, subst, ◌∙◌, ◌≡◌, ◌%◌, arith}
+use Rattle.ng_policy.specs.Bounce.{stamped}
 use Rattle.ng_serve.specs.Groups.{Describes}
-use Rattle.ng_group.specs.States.{State}
-use Rattle.ng_group.proofs.EndGroupLemmas.{gone, has_parent, run_fewer, run_held, run_idle, run_in_hand, run_inside, run_live, run_state, run_unmapped, run_whole, slot_above, slot_fewer, slot_head, slot_in_hand, slot_on, slot_returned, slot_state, still_of}
+use Rattle.ng_group.proofs.EndGroupLemmas.{ends_run, ends_slot, gone, has_parent, run_held, run_idle, run_in_hand, run_inside, run_live, run_state, run_unmapped, run_whole, slot_above, slot_head, slot_in_hand, slot_on, slot_returned, slot_state, still_of}
 use Rattle.ng_group.proofs.works.Works.end_group.Goals as goal
 
 pub leave_any_ring-requires-clause-class : goal.leave_any_ring-requires-clause-class
@@ -42,20 +42,10 @@ returns-then-group-gt0-clause-hand g c =
     let e = gone g.N.Name.facts.start g.M.Mapper.span g.M.Mapper.runs g.M.Mapper.refused c.args.meta c.args.group.now c.self.view_is c.leave_any_ring.ensures.only c.leave_any_ring.ensures.working c.leave_any_ring.ensures.whole c.leave_any_ring.ensures.left c.retire_group.ensures.ends c.requires.group in
     run_in_hand e c.if-group-gt0.true (g.met.M.Mapper.laid e.mid.mapper) c.drop_run.new.seat c.drop_run.ensures.view c.unmap.new.self c.unmap.ensures.unmapped c.drop_run.ensures.kept (g.met.M.Mapper.bounded e.mid.mapper)
 
-pub returns-then-group-gt0-clause-fewer : goal.returns-then-group-gt0-clause-fewer
-returns-then-group-gt0-clause-fewer g c =
-    let e = gone g.N.Name.facts.start g.M.Mapper.span g.M.Mapper.runs g.M.Mapper.refused c.args.meta c.args.group.now c.self.view_is c.leave_any_ring.ensures.only c.leave_any_ring.ensures.working c.leave_any_ring.ensures.whole c.leave_any_ring.ensures.left c.retire_group.ensures.ends c.requires.group in
-    run_fewer e c.if-group-gt0.true (g.met.M.Mapper.laid e.mid.mapper) c.drop_run.new.seat c.drop_run.ensures.view
-
 pub returns-then-group-gt0-clause-idle : goal.returns-then-group-gt0-clause-idle
 returns-then-group-gt0-clause-idle g c =
     let e = gone g.N.Name.facts.start g.M.Mapper.span g.M.Mapper.runs g.M.Mapper.refused c.args.meta c.args.group.now c.self.view_is c.leave_any_ring.ensures.only c.leave_any_ring.ensures.working c.leave_any_ring.ensures.whole c.leave_any_ring.ensures.left c.retire_group.ensures.ends c.requires.group in
     run_held e c.if-group-gt0.true (g.met.M.Mapper.laid e.mid.mapper) c.drop_run.new.seat c.drop_run.ensures.view
-
-pub returns-then-group-gt0-clause-unmapped : goal.returns-then-group-gt0-clause-unmapped
-returns-then-group-gt0-clause-unmapped g c =
-    let e = gone g.N.Name.facts.start g.M.Mapper.span g.M.Mapper.runs g.M.Mapper.refused c.args.meta c.args.group.now c.self.view_is c.leave_any_ring.ensures.only c.leave_any_ring.ensures.working c.leave_any_ring.ensures.whole c.leave_any_ring.ensures.left c.retire_group.ensures.ends c.requires.group in
-    run_unmapped e c.if-group-gt0.true (g.met.M.Mapper.laid e.mid.mapper) c.drop_run.new.seat c.drop_run.ensures.view c.unmap.new.self c.unmap.ensures.unmapped
 
 pub of-parent-requires-clause-set : goal.of-parent-requires-clause-set
 of-parent-requires-clause-set g c =
@@ -93,11 +83,6 @@ returns-clause-hand g c =
     let e = gone g.N.Name.facts.start g.M.Mapper.span g.M.Mapper.runs g.M.Mapper.refused c.args.meta c.args.group.now c.self.view_is c.leave_any_ring.ensures.only c.leave_any_ring.ensures.working c.leave_any_ring.ensures.whole c.leave_any_ring.ensures.left c.retire_group.ensures.ends c.requires.group in
     slot_in_hand e (omega (arith, c.if-group-gt0.false)) c.of-parent.result.0 c.of-parent.result.1 c.of-parent.ensures c.clear_head.new.seat c.clear_head.ensures.view (g.met.M.Mapper.laid e.mid.mapper) (g.met.M.Mapper.bounded e.mid.mapper)
 
-pub returns-clause-fewer : goal.returns-clause-fewer
-returns-clause-fewer g c =
-    let e = gone g.N.Name.facts.start g.M.Mapper.span g.M.Mapper.runs g.M.Mapper.refused c.args.meta c.args.group.now c.self.view_is c.leave_any_ring.ensures.only c.leave_any_ring.ensures.working c.leave_any_ring.ensures.whole c.leave_any_ring.ensures.left c.retire_group.ensures.ends c.requires.group in
-    slot_fewer e (omega (arith, c.if-group-gt0.false)) c.of-parent.result.0 c.of-parent.result.1 c.of-parent.ensures c.clear_head.new.seat c.clear_head.ensures.view
-
 pub returns-clause-slot : goal.returns-clause-slot
 returns-clause-slot g c =
     let e = gone g.N.Name.facts.start g.M.Mapper.span g.M.Mapper.runs g.M.Mapper.refused c.args.meta c.args.group.now c.self.view_is c.leave_any_ring.ensures.only c.leave_any_ring.ensures.working c.leave_any_ring.ensures.whole c.leave_any_ring.ensures.left c.retire_group.ensures.ends c.requires.group in
@@ -108,14 +93,13 @@ returns-clause-above g c =
     let e = gone g.N.Name.facts.start g.M.Mapper.span g.M.Mapper.runs g.M.Mapper.refused c.args.meta c.args.group.now c.self.view_is c.leave_any_ring.ensures.only c.leave_any_ring.ensures.working c.leave_any_ring.ensures.whole c.leave_any_ring.ensures.left c.retire_group.ensures.ends c.requires.group in
     slot_above e (omega (arith, c.if-group-gt0.false)) c.of-parent.result.0 c.of-parent.result.1 c.of-parent.ensures c.clear_head.new.seat c.clear_head.ensures.view
 
-pub returns-then-group-gt0-clause-counter : goal.returns-then-group-gt0-clause-counter
-returns-then-group-gt0-clause-counter g c =
-    ap (λ (s : State g.row.M.Denot g.row.P.Denot). s.counter) c.self.view_is
-    ∙ ap (λ (s : State g.row.M.Denot g.row.P.Denot). s.counter) c.retire_group.ensures.ends.state
-    ∙ ap (λ (s : State g.row.M.Denot g.row.P.Denot). s.counter) c.leave_any_ring.ensures.only.state
+pub returns-then-group-gt0-clause-ends : goal.returns-then-group-gt0-clause-ends
+returns-then-group-gt0-clause-ends g c =
+    let e = gone g.N.Name.facts.start g.M.Mapper.span g.M.Mapper.runs g.M.Mapper.refused c.args.meta c.args.group.now c.self.view_is c.leave_any_ring.ensures.only c.leave_any_ring.ensures.working c.leave_any_ring.ensures.whole c.leave_any_ring.ensures.left c.retire_group.ensures.ends c.requires.group in
+    ends_run g.M.Mapper.runs c.args.meta c.args.group.now c.self.view_is c.leave_any_ring.ensures.leaves c.retire_group.ensures.ends c.drop_run.new.seat c.stamp.new.self c.unmap.new.self c.if-group-gt0.true c.drop_run.ensures.view
+    (c.stamp.ensures ∙ ap (λ b. stamped b c.args.group.now.class) c.step.ensures) c.unmap.ensures.unmapped
+    (run_unmapped e c.if-group-gt0.true (g.met.M.Mapper.laid e.mid.mapper) c.drop_run.new.seat c.drop_run.ensures.view c.unmap.new.self c.unmap.ensures.unmapped)
 
-pub returns-clause-counter : goal.returns-clause-counter
-returns-clause-counter g c =
-    ap (λ (s : State g.row.M.Denot g.row.P.Denot). s.counter) c.self.view_is
-    ∙ ap (λ (s : State g.row.M.Denot g.row.P.Denot). s.counter) c.retire_group.ensures.ends.state
-    ∙ ap (λ (s : State g.row.M.Denot g.row.P.Denot). s.counter) c.leave_any_ring.ensures.only.state
+pub returns-clause-ends : goal.returns-clause-ends
+returns-clause-ends g c =
+    ends_slot g.M.Mapper.runs c.args.meta c.args.group.now c.self.view_is c.leave_any_ring.ensures.leaves c.retire_group.ensures.ends c.of-parent.result.0 c.of-parent.result.1 c.clear_head.new.seat (omega (arith, c.if-group-gt0.false)) c.of-parent.ensures c.clear_head.ensures.view

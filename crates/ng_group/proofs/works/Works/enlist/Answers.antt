@@ -3,7 +3,7 @@ use Rattle.ng_lists.specs.Rings.{IsListed}
 use Rattle.ng_view.specs.Lists.{Among}
 use Rattle.ng_ledger.specs.Rings.{IsTable}
 use Rattle.ng_group.specs.States.{State}
-use Rattle.ng_group.proofs.ReturningLemmas.{enlisted, listed_there, reads_enlisted, reads_none}
+use Rattle.ng_group.proofs.ReturningLemmas.{enlisted, enlists_here, enlists_last, listed_there}
 use Rattle.ng_group.proofs.works.Works.enlist.Goals as goal
 
 pub returns-then-has-clause-listed : goal.returns-then-has-clause-listed
@@ -11,8 +11,8 @@ returns-then-has-clause-listed g c =
     let stands : IsTable c.self.inside.rings = record { classes = c.stand_once.ensures.classes; places = c.stand_once.ensures.places; once = c.stand_once.ensures.once; apart = c.stand_once.ensures.apart } in
     listed_there g.N.Name.facts.start g.M.Mapper.span g.M.Mapper.runs g.M.Mapper.refused c.args.self.now _ c.self.view_is c.requires.working c.args.meta stands (c.has.ensures.listed.0 c.if-has.true)
 
-pub returns-then-has-clause-reads : goal.returns-then-has-clause-reads
-returns-then-has-clause-reads g c = reads_none c.args.self.now.seat c.args.meta
+pub returns-then-has-clause-enlists : goal.returns-then-has-clause-enlists
+returns-then-has-clause-enlists g c = enlists_here c.args.class c.args.meta c.self.view_is (c.has.ensures.listed.0 c.if-has.true)
 
 pub returns-clause-working : goal.returns-clause-working
 returns-clause-working g c =
@@ -21,5 +21,7 @@ returns-clause-working g c =
     let zero : Among c.args.meta c.args.self.now.seat.desk.zero_avail = c.requires.bare (subst (λ (s : State g.row.M.Denot g.row.P.Denot). ¬ IsListed s.rings c.args.meta) c.self.view_is absent) in
     enlisted g.N.Name.facts.start g.M.Mapper.span g.M.Mapper.runs g.M.Mapper.refused c.args.self.now _ c.self.view_is c.requires.working c.args.class c.args.meta c.note_ring.result c.note_ring.new.seat c.enqueue.new.self stands c.requires.class c.requires.group zero c.note_ring.ensures c.enqueue.ensures.appended
 
-pub returns-clause-reads : goal.returns-clause-reads
-returns-clause-reads g c = reads_enlisted c.args.meta c.self.view_is c.note_ring.result c.note_ring.new.seat c.note_ring.ensures
+pub returns-clause-enlists : goal.returns-clause-enlists
+returns-clause-enlists g c =
+    let absent : ¬ IsListed c.self.inside.rings c.args.meta = λ listed. let is = c.has.ensures.listed.1 listed in let not = c.if-has.false in cc in
+    enlists_last c.args.class c.args.meta c.self.view_is c.note_ring.result c.note_ring.new.seat c.enqueue.new.self absent c.note_ring.ensures c.enqueue.ensures.appended

@@ -1,4 +1,4 @@
-use Rattle.std.proofs.Common.{Some, ap, refl, subst, sym, ◌∙◌, ◌≡◌}
+use Rattle.std.proofs.Common.{None, Some, ap, refl, subst, sym, ◌∙◌, ◌≡◌}
 use Rattle.std.specs.List.{slice_get}
 use Rattle.ng_lists.specs.Rings.{IsListed, ring_of}
 use Rattle.ng_view.specs.Lists.{Among}
@@ -7,7 +7,7 @@ use Rattle.ng_ledger.proofs.ElementLemmas.{contains_get}
 use Rattle.ng_group.specs.Returning.{HasWhole}
 use Rattle.ng_group.specs.Serving.{OnlyRing}
 use Rattle.ng_group.specs.States.{State, Working}
-use Rattle.ng_group.proofs.EndingLemmas.{in_space, next_bare, not_first, number_is, ring_group, stocked_only, stocked_whole, stocked_works}
+use Rattle.ng_group.proofs.EndingLemmas.{in_space, leaves_last, leaves_next, leaves_other, next_bare, not_first, number_is, number_not, ring_group, stocked_only, stocked_whole, stocked_works}
 use Rattle.ng_group.proofs.WorkingLemmas.{only_then}
 use Rattle.ng_group.proofs.works.Works.leave_ring.Goals as goal
 
@@ -63,3 +63,23 @@ returns-in-Some-clause-whole g c =
     let absent : ¬ IsListed c.self-2.inside.rings c.args.meta = subst (λ (s : State g.row.M.Denot g.row.P.Denot). ¬ IsListed s.rings c.args.meta) (sym c.self-2.view_is) c.unlist.ensures.left in
     stocked_whole c.self-2.inside.seat c.stock_freed.new.seat c.in-Some.next c.stock_freed.ensures c.args.meta (not_first c.self-2.inside.rings c.args.class c.args.meta c.in-Some.next absent first)
     (subst (λ (s : State g.row.M.Denot g.row.P.Denot). HasWhole s.seat c.args.meta) (sym c.self-2.view_is) c.unlist.ensures.whole)
+
+pub returns-in-Some-clause-left : goal.returns-in-Some-clause-left
+returns-in-Some-clause-left g c = subst (λ (s : State g.row.M.Denot g.row.P.Denot). ¬ IsListed s.rings c.args.meta) (sym c.self-2.view_is) c.unlist.ensures.left
+
+pub returns-in-Some-clause-leaves : goal.returns-in-Some-clause-leaves
+returns-in-Some-clause-leaves g c =
+    let second : slice_get (ring_of c.self-2.inside.rings c.args.class) 0 ≡ Some c.in-Some.next = sym c.first-then-was_first.ensures.first ∙ c.in-Some.is in
+    let first : slice_get (ring_of c.args.self.now.rings c.args.class) 0 ≡ Some c.args.meta =
+    ap (λ (s : State g.row.M.Denot g.row.P.Denot). slice_get (ring_of s.rings c.args.class) 0) (sym c.self.view_is) ∙ sym c.first.ensures.first ∙ number_is c.first.result c.args.meta (c.if-was_first.ensures) in
+    leaves_next c.args.class c.args.meta c.self-2.view_is c.args.self.now c.unlist.ensures.unlists c.in-Some.next c.stock_freed.new.seat first second c.stock_freed.ensures
+
+pub returns-in_default-clause-leaves : goal.returns-in_default-clause-leaves
+returns-in_default-clause-leaves g c =
+    let none : slice_get (ring_of c.self-2.inside.rings c.args.class) 0 ≡ None = sym c.first-then-was_first.ensures.first ∙ c.in_default.is in
+    leaves_last c.args.class c.args.meta c.self-2.view_is c.args.self.now c.unlist.ensures.unlists c.unlist.new.self (sym c.self-2.view_is) none
+
+pub returns-else-was_first-clause-leaves : goal.returns-else-was_first-clause-leaves
+returns-else-was_first-clause-leaves g c =
+    leaves_other c.args.class c.args.meta refl c.args.self.now c.unlist.ensures.unlists (λ first. number_not c.first.result c.args.meta c.if-was_first.ensures
+    (c.first.ensures.first ∙ ap (λ (s : State g.row.M.Denot g.row.P.Denot). slice_get (ring_of s.rings c.args.class) 0) c.self.view_is ∙ first))

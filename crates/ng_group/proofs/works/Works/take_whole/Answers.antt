@@ -32,7 +32,7 @@ pub returns-then-not-may_end-clause-only : goal.returns-then-not-may_end-clause-
 returns-then-not-may_end-clause-only g c = back_only g.N.Name.facts.start g.M.Mapper.span g.M.Mapper.runs g.M.Mapper.refused c.args.self.now _ c.self.view_is c.requires.working c.args.meta c.args.index c.args.group.now c.requires.slot c.requires.group c.read_masks-masks.new.seat c.read_masks-masks.result.0 c.read_masks-masks.result.1 c.read_masks-masks.ensures c.put_back.new.self c.put_back.ensures.only
 
 pub returns-then-not-may_end-clause-takes : goal.returns-then-not-may_end-clause-takes
-returns-then-not-may_end-clause-takes g c = back_takes g.N.Name.facts.start g.M.Mapper.span g.M.Mapper.runs g.M.Mapper.refused c.args.self.now _ c.self.view_is c.requires.working c.args.meta c.args.index c.args.group.now c.requires.slot c.requires.group c.read_masks-masks.new.seat c.read_masks-masks.result.0 c.read_masks-masks.result.1 c.read_masks-masks.ensures g.P.Rules.keep_gives c.put_back.new.self.seat c.put_back.ensures.reads (c.may_end.ensures.stays c.if-not-may_end.true)
+returns-then-not-may_end-clause-takes g c = back_takes g.N.Name.facts.start g.M.Mapper.span g.M.Mapper.runs g.M.Mapper.refused c.args.self.now _ c.self.view_is c.requires.working c.args.meta c.args.index c.args.group.now c.requires.slot c.requires.group c.read_masks-masks.new.seat c.read_masks-masks.result.0 c.read_masks-masks.result.1 c.read_masks-masks.ensures g.P.Rules.keep_gives c.put_back.new.self c.put_back.ensures.back (c.may_end.ensures.stays c.if-not-may_end.true)
 
 pub capture_all-requires-clause-few : goal.capture_all-requires-clause-few
 capture_all-requires-clause-few g c = own_few g.N.Name.facts.start g.M.Mapper.span g.M.Mapper.runs g.M.Mapper.refused c.args.self.now _ c.self.view_is c.requires.working c.args.meta c.args.index c.args.group.now c.requires.slot c.requires.group

@@ -2,7 +2,7 @@ use Rattle.std.proofs.Common.{refl, subst, sym}
 use Rattle.ng_ledger.specs.Rings.{IsIn, IsTable}
 use Rattle.ng_group.specs.Returning.{HasWhole}
 use Rattle.ng_group.specs.States.{State, Working}
-use Rattle.ng_group.proofs.EndingLemmas.{left_out, noted_unlisted, unlisted_whole, unlisted_works}
+use Rattle.ng_group.proofs.EndingLemmas.{left_out, noted_unlisted, unlisted_whole, unlisted_works, unlists_now}
 use Rattle.ng_group.proofs.works.Works.unlist.Goals as goal
 
 pub returns-clause-working : goal.returns-clause-working
@@ -27,3 +27,6 @@ returns-clause-left g c =
     let member : IsIn c.self.inside.rings c.args.class c.args.meta = subst (λ (s : State g.row.M.Denot g.row.P.Denot). IsIn s.rings c.args.class c.args.meta) (sym c.self.view_is) c.requires.member in
     let table : IsTable c.self.inside.rings = record { classes = c.stand_once.ensures.classes; places = c.stand_once.ensures.places; once = c.stand_once.ensures.once; apart = c.stand_once.ensures.apart } in
     left_out c.self.inside.rings c.dequeue.new.self c.args.class c.args.meta table member c.dequeue.ensures.removed
+
+pub returns-clause-unlists : goal.returns-clause-unlists
+returns-clause-unlists g c = unlists_now c.args.class c.args.meta c.self.view_is c.note_ring.result c.note_ring.new.seat c.dequeue.new.self c.requires.member c.note_ring.ensures c.dequeue.ensures.removed
