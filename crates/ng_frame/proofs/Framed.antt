@@ -40,6 +40,9 @@ known_frame hand block h f found b live =
     subst (λ k. IsFramed k b.at b.len) (sym same) (subst (λ (e : Extent). IsFramed held e.at e.len) (sym is) f.framed)
 
 -- ---- the steps on a view
+pub held_each : (v w : View) → w.held ≡ v.held → AreFramed v → AreFramed w
+held_each v w same framed k there = framed k (subst (λ hs. Among k hs) same there)
+
 pub loaded_each : (v w : View) (a x : ℕ) → w ≡ loaded v a x → AreFramed v → AreFramed w
 loaded_each v w a x is framed k there =
     let was = among_map (learnt a x) v.held k (subst (λ (u : View). Among k u.held) is there) in

@@ -1,7 +1,6 @@
 -- The frame that a put leaves.
-use Rattle.std.proofs.Common.{◌≡◌, ◌≢◌, ℕ, ◌+◌, ◌-◌, ◌*◌, ◌/◌, ◌%◌, ◌<◌, ◌≤◌, List, [], ◌∷◌, ◌++◌, refl, sym, ap, ◌∙◌, subst, inl, inr, arith}
+use Rattle.std.proofs.Common.{◌≡◌, ◌≢◌, ℕ, ◌+◌, ◌-◌, ◌*◌, ◌/◌, ◌%◌, ◌<◌, ◌≤◌, refl, sym, ap, ◌∙◌, subst, inl, inr, arith}
 use Rattle.std.specs.Prelude.{Some}
-use Rattle.std.proofs.lemmas.List.{append_assoc}
 use Rattle.ng_rule.proofs.geometry.Lists.{find_among, find_edit}
 use Rattle.ng_header.specs.Bytes.{byte_of}
 use Rattle.ng_header.specs.Cycle.{cycle_of}
@@ -21,8 +20,7 @@ use Rattle.ng_space.specs.Blocks.{HasFramed, IsReady, OfSlot, offset_in}
 use Rattle.ng_space.specs.Callers.{Caller}
 use Rattle.ng_space.specs.Tokens.{HasSlot, LiesAt, Token}
 use Rattle.ng_space.proofs.Holding.{find-loaded}
-use Rattle.ng_frame.specs.Keeps.{IsWhole, KeepsCells, KeepsOthers, KeepsRest, Learns, LiesStill, Stays}
-use Rattle.ng_frame.specs.Puts.{Cycles, Puts}
+use Rattle.ng_frame.specs.Keeps.{IsWhole, KeepsCells, KeepsOthers, KeepsRest, LiesStill, Stays}
 use Rattle.ng_frame.proofs.Bytes.{zero_kept, zero_made}
 use Rattle.ng_frame.proofs.Keeps.{booked_others, booked_rest, loaded_others, loaded_rest, others_then, rest_then, stays_loaded, stays_stored, stays_then, stored_others, stored_rest}
 
@@ -131,21 +129,6 @@ given_by_cycle hand slot o n p x counter at is fits cycles has = of_found hand s
     here : (p % 16 ≡ 0) × (slot_start has.has.held.place + 16 * o ≤ p) × (p < slot_start has.has.held.place + 16 * o + 16)
     here = let start = has.has.place.start in let from = is.start in (omega (arith, at), omega (arith, at), omega (arith, at))
 
-pub puts : (old one two three new : Caller) (slot : Token) (o n p k x counter : ℕ) → p ≡ slot.start + 16 * o → IsWhole slot → n + 4 ≤ slot.room → Cycles old.view slot n counter o one.view → KeepsRest one.view two.view → KeepsRest two.view three.view
-    → new.view ≡ given three.view slot.meta slot.index p n 16 k x → HasFramed new (record { slot = slot; at = p; len = n; align = 16 }) → Puts old (record { slot = slot; at = p; len = n; align = 16 }) counter new
-puts old one two three new slot o n p k x counter at is fits cycles mark trailer gives has = record {
-  word = cycles.word;
-  more = mark.more ++ trailer.more;
-  readings =
-      ap (λ (u : View). u.readings) gives
-      ∙ trailer.readings
-      ∙ ap (λ (r : List (ℕ × ℕ)). r ++ trailer.more) mark.readings
-      ∙ append_assoc one.view.readings mark.more trailer.more
-      ∙ ap (λ (u : View). u.readings ++ (mark.more ++ trailer.more)) cycles.view
-      ∙ append_assoc old.view.readings ((slot.start - 4, cycles.word) ∷ []) (mark.more ++ trailer.more);
-  given = given_by_cycle new slot o n p (cycles.word % 4294967296) counter at is fits cycles.offset_is has;
-}
-
 pub given_others : (v w : View) (slot : Token) (p n k x : ℕ) → w ≡ given v slot.meta slot.index p n 16 k x → KeepsOthers slot v w
 given_others v w slot p n k x gives = others_then slot v (stored v slot.meta slot.index (p - 4) x) w (stored_others slot v (stored v slot.meta slot.index (p - 4) x) (p - 4) x refl) (booked_others slot (stored v slot.meta slot.index (p - 4) x) w _ k _ gives)
 
@@ -155,16 +138,15 @@ given_rest v w slot p n k x gives =
     rest_then v mid w (stored_rest v mid slot.meta slot.index (p - 4) x refl) (booked_rest mid w slot.meta slot.index _ k _ gives)
 
 -- the slot of the block lies where it did
-pub given_still : (v one two three w : View) (slot : Token) (P Q : ℕ → Type 0) (p n k x : ℕ) → Stays slot.meta slot.index v one Learns
-    → Stays slot.meta slot.index one two (KeepsCells P) → Stays slot.meta slot.index two three (KeepsCells Q)
-    → w ≡ given three slot.meta slot.index p n 16 k x → Stays slot.meta slot.index v w LiesStill
-given_still v one two three w slot P Q p n k x cycles mark trailer gives h found =
-    let a = cycles h found in
-    let b = mark a.0 a.1 in
+pub given_still : (v two three w : View) (slot : Token) (P Q : ℕ → Type 0) (p n k x : ℕ) → Stays slot.meta slot.index v two (KeepsCells P)
+    → Stays slot.meta slot.index two three (KeepsCells Q) → w ≡ given three slot.meta slot.index p n 16 k x
+    → Stays slot.meta slot.index v w LiesStill
+given_still v two three w slot P Q p n k x mark trailer gives h found =
+    let b = mark h found in
     let c = trailer b.0 b.1 in (
       with_block (Some (extent p n 16)) (wrote (p - 4) x c.0),
       ap (λ (u : View). find slot.meta slot.index u.held) gives
           ∙ find_edit slot.meta slot.index (with_block (Some (extent p n 16))) (edit slot.meta slot.index (wrote (p - 4) x) three.held) (wrote (p - 4) x c.0) (λ y. refl)
           (find_edit slot.meta slot.index (wrote (p - 4) x) three.held c.0 (λ y. refl) c.1),
-      c.2.place ∙ b.2.place ∙ a.2.place,
+      c.2.place ∙ b.2.place,
     )

@@ -14,6 +14,7 @@ use Rattle.ng_view.specs.declared.view.Held.{Held}
 use Rattle.ng_view.specs.declared.view.Place.{Place}
 use Rattle.ng_view.specs.declared.view.View.{View}
 use Rattle.ng_space.specs.Blocks.{BlockToken, Kills}
+use Rattle.ng_space.specs.Entries.{Enters}
 use Rattle.ng_space.specs.Tokens.{Token}
 use Rattle.ng_space.proofs.Holding.{find-loaded}
 use Rattle.ng_frame.specs.Keeps.{CameFrom, IsOther, KeepsAll, KeepsCells, KeepsOthers, KeepsRest, Learns, Stays}
@@ -173,6 +174,26 @@ all_itself v = record {
 
 pub rest_itself : (v : View) → KeepsRest v v
 rest_itself v = record { excuses = refl; sent = refl; taken = refl; more = []; readings = sym (append-nil v.readings) }
+
+-- ---- the same slots
+pub held_all : (v w : View) → w.held ≡ v.held → KeepsAll v w
+held_all v w same = record {
+  slots = λ m i h found. (h, ap (λ (hs : List Held). find m i hs) same ∙ found, learns_itself h);
+  back = λ m i k found. (k, ap (λ (hs : List Held). find m i hs) (sym same) ∙ found, learns_itself k);
+}
+
+-- an entry was made at a load of word 0
+pub entered_all : (v w : View) (number : ℕ) (entry : Entry) → Enters v number entry w → KeepsAll v w
+entered_all v w number entry enters = held_all v w (ap (λ (u : View). u.held) enters.view)
+
+pub entered_rest : (v w : View) (number : ℕ) (entry : Entry) → Enters v number entry w → KeepsRest v w
+entered_rest v w number entry enters = record {
+  excuses = ap (λ (u : View). u.excuses) enters.view;
+  sent = ap (λ (u : View). u.sent) enters.view;
+  taken = ap (λ (u : View). u.taken) enters.view;
+  more = (0, enters.found) ∷ [];
+  readings = ap (λ (u : View). u.readings) enters.view;
+}
 
 -- a block is ended
 pub kills_others : (v w : View) (block : BlockToken) (k : ℕ) → Kills v block k w → KeepsOthers block.slot v w

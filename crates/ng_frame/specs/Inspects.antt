@@ -1,10 +1,13 @@
 -- The damage of a block's frame, by the words that were read of it.
-use Rattle.std.specs.Prelude.{◌≡◌, ◌↔◌, ℕ, ◌-◌, ◌*◌, ◌/◌, ◌%◌, ◌≤◌, min, Option, Some, None}
+use Rattle.std.specs.Prelude.{◌≡◌, ◌↔◌, ℕ, ◌-◌, ◌*◌, ◌/◌, ◌%◌, ◌≤◌, min, Option, Some, None, Result, Ok, Err}
 use Rattle.ng_header.specs.Bytes.{byte_of}
 use Rattle.ng_header.specs.Reading.{IsBadReserved, IsOverrun, reserved_by}
+use Rattle.ng_terms.specs.declared.entry.Entry.{Entry}
+use Rattle.ng_terms.specs.declared.entry.Entry.TheVariants.{Refused, Take}
 use Rattle.ng_view.specs.Steps.{loaded}
 use Rattle.ng_view.specs.declared.view.View.{View}
 use Rattle.ng_space.specs.Blocks.{BlockToken, Kills}
+use Rattle.ng_space.specs.Entries.{Enters}
 use Rattle.ng_frame.specs.declared.damage.Damage.{Damage}
 use Rattle.ng_frame.specs.declared.damage.Damage.TheVariants.{BadReserved, Overrun}
 use Rattle.ng_frame.specs.declared.words.Words.{Words}
@@ -52,6 +55,16 @@ abbrev pub looked : View → BlockToken → Words → View
 looked v block w =
     loaded (loaded (loaded v (block.at - 4) w.header) (block.slot.end - 4) w.last) (block.slot.end - 8) w.fifth
 
+-- the number of a damage in the entry of a refused pointer
+abbrev pub number_of : Damage → ℕ
+number_of BadReserved = 12
+number_of Overrun = 13
+
+-- the entry of a free of the block at an address: it is taken, or refused for its damage
+abbrev pub entry_of : {A B : Type 0} → ℕ → Result A (B × Damage) → Entry
+entry_of at (Ok done) = Take at
+entry_of at (Err left) = Refused at (number_of left.1)
+
 -- the words of the frame were loaded, and the cell of the first reserved byte where they aren't bad;
 -- what they tell is the damage that was found
 pub record Inspects (before : View) (block : BlockToken) (found : Option Damage) (after : View) : Type 0 where
@@ -67,3 +80,9 @@ pub record Takes (before : View) (block : BlockToken) (number : ℕ) (after : Vi
   pub between : View
   pub inspects : Inspects before block None between
   pub kills : Kills between block number after
+
+-- damage was found, and the refusal was entered
+pub record Refuses (before : View) (block : BlockToken) (found : Damage) (number : ℕ) (after : View) : Type 0 where
+  pub between : View
+  pub inspects : Inspects before block (Some found) between
+  pub enters : Enters between number (Refused block.at (number_of found)) after

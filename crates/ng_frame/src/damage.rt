@@ -1,7 +1,7 @@
 ghost use Rattle.std.specs.Prelude.{◌≡◌, None};
 ghost use Rattle.ng_space.specs.Blocks.{HasBlock, HasFramed};
 ghost use Rattle.ng_frame.specs.Framed.{AreFramed};
-ghost use Rattle.ng_frame.specs.Inspects.{Inspects};
+ghost use Rattle.ng_frame.specs.Inspects.{Inspects, number_of};
 ghost use Rattle.ng_frame.specs.Keeps.{KeepsAll, KeepsRest};
 
 use crate::words::{byte, read_words};
@@ -15,6 +15,18 @@ pub enum Damage {
     BadReserved,
     /// The first byte behind the block isn't 0.
     Overrun,
+}
+
+impl Damage {
+    /// Its number in the entry of a refused pointer.
+    pub fn number(self) -> u32
+        ensures value { result ≡ number_of self }
+    {
+        match self {
+            Damage::BadReserved => 12,
+            Damage::Overrun => 13,
+        }
+    }
 }
 
 /// The damage of a block's frame, by its cells. A frame that the hand knows has none.

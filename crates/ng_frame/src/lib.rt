@@ -9,5 +9,6 @@ mod trailer;
 mod words;
 
 pub use damage::{Damage, find_damage};
+pub use offset::next_offset;
 pub use putting::put;
 pub use taking::take_out;

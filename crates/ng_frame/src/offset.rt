@@ -1,11 +1,11 @@
 // Where the next block of a slot begins.
 ghost use Rattle.std.specs.Prelude.{◌≡◌, ◌+◌, ◌*◌, ◌<◌, ◌≤◌, ◌^◌};
 ghost use Rattle.ng_view.specs.Frame.{IsShift, field_of};
-ghost use Rattle.ng_space.specs.Blocks.{OfSlot, offset_in};
+ghost use Rattle.ng_space.specs.Blocks.{OfSlot};
 ghost use Rattle.ng_space.specs.Tokens.{HasSlot};
 ghost use Rattle.ng_frame.specs.Framed.{AreFramed};
-ghost use Rattle.ng_frame.specs.Keeps.{IsWhole, KeepsCells, KeepsOthers, KeepsRest, Learns, Stays};
-ghost use Rattle.ng_frame.specs.Puts.{Cycles};
+ghost use Rattle.ng_frame.specs.Keeps.{IsWhole, KeepsAll, KeepsCells, KeepsOthers, KeepsRest, Stays};
+ghost use Rattle.ng_frame.specs.Puts.{Cycles, IsNear};
 
 use ng_header::cycle;
 use ng_space::{Hand, Name, Slot, Space};
@@ -13,8 +13,10 @@ use ng_space::{Hand, Name, Slot, Space};
 // Byte 1 of the header cell at a slot's start whose block begins further on.
 const MARK: u32 = 224;
 
-// The offset of the slot's next block of n bytes from its start, in units of 16 bytes.
-pub(crate) fn cycled_offset<N: Name>(
+/// Where the next block of n bytes begins in a slot: its offset from the slot's start, in units of
+/// 16 bytes. It is the next in the slot's cycle, by the header cell that is found at the start, and
+/// by the counter where that keeps no offset. One word is loaded, and nothing is stored.
+pub fn next_offset<N: Name>(
     space: &Space<N>,
     hand: &mut Hand<N>,
     slot: &Slot<N>,
@@ -24,13 +26,9 @@ pub(crate) fn cycled_offset<N: Name>(
     requires slot { HasSlot hand.old slot.now }
     requires fits { n + 4 ≤ slot.now.room }
     ensures cycles { Cycles hand.old.view slot.now n counter result hand.new.view }
-    ensures whole { IsWhole slot.now }
-    ensures within { 16 * result + n + 4 ≤ slot.now.room }
-    ensures small { result < 256 }
-    ensures narrow { offset_in slot.now (slot.now.start + 16 * result) < 65536 }
+    ensures near { IsNear slot.now n result }
     ensures slot { HasSlot hand.new slot.now }
-    ensures own { Stays slot.now.meta slot.now.index hand.old.view hand.new.view Learns }
-    ensures others { KeepsOthers slot.now hand.old.view hand.new.view }
+    ensures kept { KeepsAll hand.old.view hand.new.view }
     ensures rest { KeepsRest hand.old.view hand.new.view }
     ensures each { AreFramed hand.old.view → AreFramed hand.new.view }
     ensures number { hand.new.number ≡ hand.old.number }

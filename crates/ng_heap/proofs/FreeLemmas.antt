@@ -3,8 +3,8 @@ use Rattle.std.proofs.Common.{◌≡◌, ℕ, zero, suc, ◌+◌, Bool, List, []
 use Rattle.std.proofs.lemmas.List.{append-nil}
 use Rattle.ng_frame.specs.Framed.{AreFramed}
 use Rattle.ng_frame.specs.Keeps.{KeepsAll, KeepsOthers, KeepsRest}
-use Rattle.ng_frame.proofs.Framed.{loaded_each}
-use Rattle.ng_frame.proofs.Keeps.{all_itself, all_others, all_then, loaded_all, loaded_rest, others_then, rest_itself, rest_then}
+use Rattle.ng_frame.proofs.Framed.{held_each, loaded_each}
+use Rattle.ng_frame.proofs.Keeps.{all_itself, all_others, all_then, held_all, loaded_all, loaded_rest, others_then, rest_itself, rest_then}
 use Rattle.ng_mask.specs.Pushes.{Answers, HasPushCause, LastLoads, Loads, Loses, LosesOnce, Pushed, Sets}
 use Rattle.ng_mask.specs.declared.outcome.Needs.{Needs}
 use Rattle.ng_mask.specs.declared.outcome.Needs.TheVariants as needs
@@ -23,7 +23,6 @@ use Rattle.ng_policy.specs.declared.ask.Spare.{Spare}
 use Rattle.ng_heap.specs.Freeing.{FreesIn, FreesUnlocked, OnLeft, Settles, pushed_as}
 use Rattle.ng_heap.specs.declared.freeing.Unlocked.{Unlocked}
 use Rattle.ng_heap.specs.declared.freeing.Unlocked.TheVariants as unlocked
-use Rattle.ng_heap.proofs.KeepLemmas.{held_all, held_each}
 use Rattle.ng_heap.proofs.StayLemmas.{gone_each, gone_others, pushed_rest}
 
 -- every slot stays and none has come, and each block stays framed

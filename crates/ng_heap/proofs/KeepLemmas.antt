@@ -1,17 +1,12 @@
 -- What calls leave of a hand, one after the other, and where no slot changes.
-use Rattle.std.proofs.Common.{◌≡◌, ℕ, eqb, eq-eqb, cond, true, List, [], ◌∷◌, ◌++◌, refl, sym, ap, ◌∙◌, subst}
+use Rattle.std.proofs.Common.{◌≡◌, ℕ, eqb, eq-eqb, cond, true, List, [], ◌∷◌, ◌++◌, refl, ap, ◌∙◌}
 use Rattle.std.proofs.lemmas.List.{append_assoc}
 use Rattle.ng_view.specs.Notes.{excuse_of_call}
-use Rattle.ng_terms.specs.declared.entry.Entry.{Entry}
-use Rattle.ng_view.specs.Lists.{Among, find}
 use Rattle.ng_view.specs.Steps.{without_one}
-use Rattle.ng_view.specs.declared.view.Held.{Held}
 use Rattle.ng_view.specs.declared.view.View.{View}
-use Rattle.ng_frame.specs.Framed.{AreFramed}
-use Rattle.ng_frame.specs.Keeps.{KeepsAll, KeepsRest}
-use Rattle.ng_frame.proofs.Keeps.{learns_itself}
+use Rattle.ng_frame.specs.Keeps.{KeepsRest}
+use Rattle.ng_frame.proofs.Framed.{held_each}
 use Rattle.ng_space.specs.Callers.{Caller}
-use Rattle.ng_space.specs.Entries.{Enters}
 use Rattle.ng_space.specs.Passed.{EntersNoMemory}
 use Rattle.ng_group.specs.Hands.{GainsExcuse}
 use Rattle.ng_heap.specs.Keeps.{KeepsFrames}
@@ -22,29 +17,8 @@ frames_then before mid after one two = record {
   each = λ framed. two.each (one.each framed);
 }
 
--- ---- the same slots
-module _ (v w : View) (same : w.held ≡ v.held) where
-  pub held_all : KeepsAll v w
-  held_all = record {
-    slots = λ m i h found. (h, ap (λ (hs : List Held). find m i hs) same ∙ found, learns_itself h);
-    back = λ m i k found. (k, ap (λ (hs : List Held). find m i hs) (sym same) ∙ found, learns_itself k);
-  }
-
-  pub held_each : AreFramed v → AreFramed w
-  held_each framed k there = framed k (subst (λ (hs : List Held). Among k hs) same there)
-
 pub held_frames : (before after : Caller) → after.number ≡ before.number → after.view.held ≡ before.view.held → KeepsFrames before after
 held_frames before after number held = record { number = number; each = held_each before.view after.view held }
-
--- an entry was made at a load of word 0
-pub entered_rest : (v w : View) (number : ℕ) (entry : Entry) → Enters v number entry w → KeepsRest v w
-entered_rest v w number entry enters = record {
-  excuses = ap (λ (u : View). u.excuses) enters.view;
-  sent = ap (λ (u : View). u.sent) enters.view;
-  taken = ap (λ (u : View). u.taken) enters.view;
-  more = (0, enters.found) ∷ [];
-  readings = ap (λ (u : View). u.readings) enters.view;
-}
 
 -- the excuse of a refused map call came, and went with the entry of the request
 pub refused_rest : (v u w : View) (number n excuse : ℕ) → GainsExcuse excuse v u → EntersNoMemory u number n excuse w → KeepsRest v w

@@ -12,10 +12,9 @@ use Rattle.ng_rule.proofs.geometry.Lists.{is_at-here}
 use Rattle.ng_view.specs.Lists.{Among, find, is_at}
 use Rattle.ng_view.specs.Steps.{in_motion}
 use Rattle.ng_view.specs.declared.view.Held.{Held}
-use Rattle.ng_view.specs.declared.view.Place.{Place}
 use Rattle.ng_view.specs.declared.view.View.{View}
 use Rattle.ng_frame.specs.Framed.{AreFramed, HasFrame}
-use Rattle.ng_frame.specs.Keeps.{IsOther, KeepsAll, KeepsOthers, KeepsRest, Learns, LiesStill, Stays}
+use Rattle.ng_frame.specs.Keeps.{IsOther, KeepsAll, KeepsOthers, KeepsRest, Learns}
 use Rattle.ng_frame.proofs.Framed.{free_frame, learns_frame}
 use Rattle.ng_frame.proofs.Keeps.{not_at}
 use Rattle.ng_frame.proofs.Tokens.{live_apart}
@@ -233,24 +232,6 @@ answered_builds {P = P} gives before looked after n class hand (Ok slot) looks s
     subst (λ (r : P). BuildsWanted (gives r) looked after class n) (looked_rules before looked looks.only) builds in
     inr (small, (looked, class, looks, of_class hand class n slot is, wanted))
 answered_builds gives before looked after n class hand (Err excuse) looks small is builds = tt
-
--- the slot's class is the same once a block was put into it
-put_class : (class : ℕ) (mid after : Caller) (slot : Token) → HasSlot mid slot → Stays slot.meta slot.index mid.view after.view LiesStill
-    → HasClass mid slot class → HasClass after slot class
-put_class class mid after slot has stays is h found =
-    let k = stays has.held has.found in
-    let q : k.0 ≡ h = cc in
-    let of_class : k.0.place.group.tag ≡ class + 1 = subst (λ (p : Place). p.group.tag ≡ class + 1) (sym k.2) (is has.held has.found) in
-    subst (λ (y : Held). y.place.group.tag ≡ class + 1) q of_class
-
-pub put_builds : {M P : Type 0} (counts : Ask → ℕ → Type 0) (before core : State M P) (n : ℕ) (mid after : Caller) (slot other : Token) → other ≡ slot
-    → HasSlot mid slot → Stays slot.meta slot.index mid.view after.view LiesStill
-    → BuildsFor counts before core n mid slot → BuildsFor counts before core n after other
-put_builds counts before core n mid after slot other same has stays builds =
-    subst (λ t. BuildsFor counts before core n after t) (sym same) (⊎_elim
-    (λ large. inl (large.0, put_class 63 mid after slot has stays large.1, large.2))
-    (λ small. let of = small.1 in inr (small.0, (of.0, of.1, of.2, put_class of.1 mid after slot has stays of.3, of.4)))
-    builds)
 
 -- ---- a map call was refused
 pub answered_cause : {M P : Type 0} (gives : P → Ask → ℕ → Type 0) (refused : M → Refusals) (before looked after : State M P) (n class : ℕ)

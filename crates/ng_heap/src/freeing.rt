@@ -1,6 +1,6 @@
 // Blocks that are taken back.
-ghost use Rattle.std.specs.Prelude.{◌≡◌, ◌+◌, ◌++◌, ◌≤◌, ◌∷◌, [], IfErr, IfOk, IsOk, OnOk, Some};
-ghost use Rattle.ng_frame.specs.Inspects.{Inspects};
+ghost use Rattle.std.specs.Prelude.{◌≡◌, ◌+◌, ◌++◌, ◌≤◌, ◌∷◌, [], IfErr, IfOk, IsOk, OnOk};
+ghost use Rattle.ng_frame.specs.Inspects.{Refuses, entry_of};
 ghost use Rattle.ng_frame.specs.Keeps.{KeepsAll, KeepsOthers, KeepsRest};
 ghost use Rattle.ng_group.specs.Returning.{ReturnsOfHand};
 ghost use Rattle.ng_group.specs.Steps.{GoesOn};
@@ -8,7 +8,6 @@ ghost use Rattle.ng_heap.specs.Freeing.{FreesIn, FreesUnlocked, OnLeft};
 ghost use Rattle.ng_heap.specs.Keeps.{KeepsFrames};
 ghost use Rattle.ng_space.specs.Blocks.{HasBlock, HasFramed};
 ghost use Rattle.ng_space.specs.Tokens.{HasSlot};
-ghost use Rattle.ng_terms.specs.declared.entry.Entry.TheVariants.{Take};
 ghost use Rattle.ng_view.specs.Steps.{pushed};
 
 use crate::heap::Heap;
@@ -28,8 +27,8 @@ pub enum Unlocked<N: Name> {
 }
 
 impl<N: Name> Heap<N> {
-    /// Takes a block back without the lock, and enters it. Its slot goes into the freed mask of its group, or is left for
-    /// [`Heap::settle_in`]. A block whose frame is damaged comes back, and nothing is stored or entered.
+    /// Takes a block back without the lock. Its slot goes into the freed mask of its group, or is left for
+    /// [`Heap::settle_in`]. A block whose frame is damaged comes back, and nothing is stored. Either is entered.
     pub fn free_unlocked(
         &self,
         hand: &mut Hand<N>,
@@ -38,19 +37,17 @@ impl<N: Name> Heap<N> {
         requires spare { 1 ≤ hand.old.spare }
         requires block { HasBlock hand.old block }
         ensures framed { HasFramed hand.old block → IsOk result }
-        ensures taken { OnOk result (hand.new.entries ≡ hand.old.entries ++ Take block.at ∷ []) }
-        ensures spare { OnOk result (hand.new.spare + 1 ≡ hand.old.spare) }
         ensures frees { IfOk result (λ freed. FreesUnlocked hand.old block freed hand.new.view) }
         ensures left { IfOk result (λ freed. OnLeft freed (λ slot. slot ≡ block.slot)) }
         ensures has { IfOk result (λ freed. OnLeft freed (HasSlot hand.new)) }
 
         ensures block { IfErr result (λ left. left.0 ≡ block) }
-        ensures cause { IfErr result (λ left. Inspects hand.old.view block (Some left.1) hand.new.view) }
+        ensures cause { IfErr result (λ left. Refuses hand.old.view block left.1 hand.old.number hand.new.view) }
         ensures still { IfErr result (λ left. HasBlock hand.new left.0) }
-        ensures unspent { IfErr result (λ left. hand.new.spare ≡ hand.old.spare) }
-        ensures none { IfErr result (λ left. hand.new.entries ≡ hand.old.entries) }
         ensures kept { IfErr result (λ left. KeepsAll hand.old.view hand.new.view) }
 
+        ensures entries { hand.new.entries ≡ hand.old.entries ++ entry_of block.at result ∷ [] }
+        ensures spare { hand.new.spare + 1 ≡ hand.old.spare }
         ensures others { KeepsOthers block.slot hand.old.view hand.new.view }
         ensures rest { KeepsRest hand.old.view hand.new.view }
         ensures frames { KeepsFrames hand.old hand.new }
@@ -62,8 +59,8 @@ impl<N: Name> Heap<N> {
         }
     }
 
-    /// Takes a block back under the core's lock, and enters it. A block whose frame is damaged comes back, and nothing is
-    /// stored or entered.
+    /// Takes a block back under the core's lock. A block whose frame is damaged comes back, and nothing is stored. Either
+    /// is entered.
     pub fn free_in<M: Mapper, P: Rules>(
         &self,
         core: &mut Core<N, M, P>,
@@ -73,18 +70,16 @@ impl<N: Name> Heap<N> {
         requires spare { 1 ≤ hand.old.spare }
         requires block { HasBlock hand.old block }
         ensures framed { HasFramed hand.old block → IsOk result }
-        ensures taken { OnOk result (hand.new.entries ≡ hand.old.entries ++ Take block.at ∷ []) }
-        ensures spare { OnOk result (hand.new.spare + 1 ≡ hand.old.spare) }
 
         ensures block { IfErr result (λ left. left.0 ≡ block) }
-        ensures cause { IfErr result (λ left. Inspects hand.old.view block (Some left.1) hand.new.view) }
+        ensures cause { IfErr result (λ left. Refuses hand.old.view block left.1 hand.old.number hand.new.view) }
         ensures still { IfErr result (λ left. HasBlock hand.new left.0) }
-        ensures unspent { IfErr result (λ left. hand.new.spare ≡ hand.old.spare) }
-        ensures none { IfErr result (λ left. hand.new.entries ≡ hand.old.entries) }
         ensures kept { IfErr result (λ left. KeepsAll hand.old.view hand.new.view) }
         ensures unchanged { IfErr result (λ left. core.new ≡ core.old) }
         ensures frees { OnOk result (FreesIn (P.keep_gives core.old.rules) M.runs hand.old block core.old core.new hand.new.view) }
 
+        ensures entries { hand.new.entries ≡ hand.old.entries ++ entry_of block.at result ∷ [] }
+        ensures spare { hand.new.spare + 1 ≡ hand.old.spare }
         ensures others { KeepsOthers block.slot hand.old.view hand.new.view }
         ensures rest { KeepsRest hand.old.view hand.new.view }
         ensures frames { KeepsFrames hand.old hand.new }

@@ -1,7 +1,7 @@
 // Blocks that are given.
 ghost use Rattle.std.specs.Prelude.{◌≡◌, ◌≢◌, ◌+◌, ◌++◌, ◌<◌, ◌≤◌, ◌↔◌, ◌∷◌, [], Err, IfErr, IfOk, OnOk};
 ghost use Rattle.ng_frame.specs.Keeps.{KeepsAll, KeepsOthers, KeepsRest, KeepsSlots};
-ghost use Rattle.ng_group.specs.Hands.{GainsExcuse};
+ghost use Rattle.ng_group.specs.Hands.{GainsExcuse, GainsSlot};
 ghost use Rattle.ng_group.specs.Steps.{GoesOn};
 ghost use Rattle.ng_heap.specs.Causes.{BuildsFor, HasRefusalCause, IsGivenNow};
 ghost use Rattle.ng_heap.specs.Keeps.{IsFresh, KeepsFrames};
@@ -15,7 +15,7 @@ ghost use Rattle.ng_terms.specs.declared.refusal.AllocRefusal.TheVariants as ref
 
 use crate::heap::Heap;
 use ng_class::THRESHOLD;
-use ng_frame::put;
+use ng_frame::{next_offset, put};
 use ng_group::Core;
 use ng_history::{Entry, LARGE};
 use ng_mapper::Mapper;
@@ -71,7 +71,10 @@ impl<N: Name> Heap<N> {
             return Err(AllocRefusal::TooLarge);
         }
         match self.slot_for(core, hand, n) {
-            Ok(slot) => Ok(put(&self.space, hand, slot, n, core.counter())),
+            Ok(slot) => {
+                let offset = next_offset(&self.space, hand, &slot, n, core.counter());
+                Ok(put(&self.space, hand, slot, n, offset))
+            }
             Err(excuse) => Err(self.refuse(hand, n, excuse)),
         }
     }
@@ -88,6 +91,7 @@ impl<N: Name> Heap<N> {
         ensures serves { IfOk result (λ slot. OfSlot hand.new slot (Serves n 16)) }
         ensures roomy { IfOk result (λ slot. n + 4 ≤ slot.room) }
         ensures has { IfOk result (HasSlot hand.new) }
+        ensures gains { IfOk result (λ slot. GainsSlot slot.meta slot.index hand.old.view hand.new.view) }
         ensures fresh { IfOk result (IsFresh hand.old) }
         ensures calm { OnOk result (M.refused core.new.mapper ≡ M.refused core.old.mapper) }
         ensures cause { IfErr result (λ excuse. HasRefusalCause (P.count_gives core.old.rules) M.refused core.old core.new n (refusal.NoMemory excuse.number)) }

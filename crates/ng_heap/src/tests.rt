@@ -9,7 +9,7 @@ ghost use Rattle.ng_space.specs.Blocks.{BlockToken, HasBlock};
 ghost use Rattle.ng_terms.specs.Heap.{empty};
 ghost use Rattle.ng_view.specs.declared.view.View.{View};
 
-use crate::{AllocRefusal, Heap, Needs, Unlocked};
+use crate::{AllocRefusal, Damage, Heap, Needs, Unlocked};
 use ng_group::{Core, Tables};
 use ng_history::{Entry, Live};
 use ng_mapper::FirstFit;
@@ -254,5 +254,120 @@ fn refuse_largest<N: Name, P: Rules, R: Abort>(
     match heap.malloc_in(core, hand, u64::MAX) {
         Err(why) => assert_eq!(rt; why, AllocRefusal::TooLarge),
         Ok(_block) => panic!(rt; "a block without end"),
+    }
+}
+
+#[test]
+fn damaged_blocks_come_back(rt: HostRuntime) -> Result<(), Fail> {
+    let alloc = rt.alloc();
+    let (blank, tables, mapper) = parts(alloc)?;
+    let rules = Policy::new(count, keep);
+    free_damaged::<Brand, _, _>(&rt, alloc, blank, tables, mapper, rules)
+}
+
+// A block of 61 bytes at 0x2050 has 15 more up to its slot's end: a 0, and their number in the last cell.
+fn free_damaged<N: Name, P: Rules + Drop, R: Abort>(
+    rt: &R,
+    alloc: Global,
+    blank: Blank,
+    tables: Tables,
+    mapper: FirstFit,
+    rules: P,
+) -> Result<(), Fail>
+    requires table { blank.table ≡ N.facts.table }
+    requires start { blank.start ≡ N.facts.start }
+    requires parts { AreParts blank tables mapper }
+    requires rooms { blank.rooms ≡ ROOM ∷ [] }
+    requires good { P.good rules }
+{
+    let mut live = Live::open(alloc, ROOM)?;
+    let (heap, mut core, mut hand) = begin::<N, P>(alloc, blank, tables, mapper, rules)?;
+    let block = given(rt, &heap, &mut core, &mut hand, 61, 0x2050);
+    spoil(rt, &heap, &mut hand, &block, 0x208c, 0xff00);
+    let block = refused_in(rt, &heap, &mut core, &mut hand, block, Damage::Overrun);
+    spoil(rt, &heap, &mut hand, &block, 0x2098, 4);
+    let block = refused_unlocked(rt, &heap, &mut hand, block, Damage::BadReserved);
+    let entries = [
+        Entry::Give {
+            n: 61,
+            align: 16,
+            at: 0x2050,
+        },
+        Entry::Refused {
+            at: 0x2050,
+            name: 13,
+        },
+        Entry::Refused {
+            at: 0x2050,
+            name: 12,
+        },
+    ];
+    assert_eq!(rt; hand.entries(), entries.as_slice());
+    assert_legal(rt, &mut live, hand.entries());
+    hand.leave(block);
+    end(rt, alloc, heap, core, hand, 3)
+}
+
+// A number is stored in a cell behind the block's address.
+fn spoil<N: Name, R: Abort>(
+    rt: &R,
+    heap: &Heap<N>,
+    hand: &mut Hand<N>,
+    block: &Block<N>,
+    addr: u64,
+    value: u32,
+)
+    requires block { HasBlock hand.old block.now }
+    ensures block { HasBlock hand.new block.now }
+    ensures closes { (seat : View) → MayClose seat hand.old → MayClose seat hand.new }
+{
+    assert!(rt; addr % 4 == 0);
+    assert!(rt; addr >= block.at());
+    assert!(rt; addr - block.at() < block.gap());
+    heap.space().store_in(hand, block, addr, value);
+}
+
+// A free under the lock is refused, and the block comes back.
+fn refused_in<N: Name, P: Rules, R: Abort>(
+    rt: &R,
+    heap: &Heap<N>,
+    core: &mut Core<N, FirstFit, P>,
+    hand: &mut Hand<N>,
+    block: Block<N>,
+    why: Damage,
+) -> Block<N>
+    requires closes { MayClose core.old.seat hand.old }
+    requires block { HasBlock hand.old block }
+    ensures block { HasBlock hand.new result }
+    ensures closes { MayClose core.new.seat hand.new }
+{
+    assert!(rt; hand.spare() > 0);
+    match heap.free_in(core, hand, block) {
+        Err((left, found)) => {
+            assert_eq!(rt; found, why);
+            left
+        }
+        Ok(()) => panic!(rt; "a damaged block is freed"),
+    }
+}
+
+// So is one without the lock.
+fn refused_unlocked<N: Name, R: Abort>(
+    rt: &R,
+    heap: &Heap<N>,
+    hand: &mut Hand<N>,
+    block: Block<N>,
+    why: Damage,
+) -> Block<N>
+    requires block { HasBlock hand.old block }
+    ensures closes { (seat : View) → MayClose seat hand.old → MayClose seat hand.new }
+{
+    assert!(rt; hand.spare() > 0);
+    match heap.free_unlocked(hand, block) {
+        Err((left, found)) => {
+            assert_eq!(rt; found, why);
+            left
+        }
+        Ok(_) => panic!(rt; "a damaged block is freed"),
     }
 }

@@ -2,9 +2,8 @@ use Rattle.std.proofs.Common.{◌∙◌, ◌≢◌, ℕ, ◌+◌, ◌-◌, ◌*�
 use Rattle.ng_view.specs.Frame.{IsTrailer}
 use Rattle.ng_space.specs.Blocks.{BlockToken, HasFramed, OfSlot}
 use Rattle.ng_frame.specs.Keeps.{KeepsOthers}
-use Rattle.ng_frame.specs.Puts.{Puts}
 use Rattle.ng_frame.proofs.Framed.{given_each}
-use Rattle.ng_frame.proofs.Frames.{given_others, given_rest, given_still, puts, ready}
+use Rattle.ng_frame.proofs.Frames.{given_others, given_rest, given_still, ready}
 use Rattle.ng_frame.proofs.Keeps.{others_then, rest_then}
 use Rattle.ng_frame.proofs.Tokens.{block_kept, live_apart}
 use Rattle.ng_frame.proofs.putting.put.Given.{Over}
@@ -12,31 +11,21 @@ use Rattle.ng_frame.proofs.putting.put.Goals as goal
 
 pub give-requires-clause-ready : goal.give-requires-clause-ready
 give-requires-clause-ready g c =
-    let o : ℕ = c.cycled_offset-offset.result in
+    let o : ℕ = c.args.offset in
     let p : ℕ = c.start.result + 16 * o in
-    let offset = c.cycled_offset-offset.ensures in
-    ready c.store_mark.new.hand c.store_trailer.new.hand c.args.slot o c.args.n p (ap (λ s. s + 16 * o) c.start.ensures) offset.whole offset.within offset.narrow c.store_mark.ensures.slot c.store_mark.ensures.shift c.store_trailer.ensures.own
+    let near = c.requires.near in
+    ready c.store_mark.new.hand c.store_trailer.new.hand c.args.slot o c.args.n p (ap (λ s. s + 16 * o) c.start.ensures) near.whole near.within near.narrow c.store_mark.ensures.slot c.store_mark.ensures.shift c.store_trailer.ensures.own
     (subst (λ e. OfSlot c.store_trailer.new.hand c.args.slot (λ h. IsTrailer h ((e - p) - c.args.n))) c.end.ensures.end c.store_trailer.ensures.trailer)
-
-pub returns-clause-puts : goal.returns-clause-puts
-returns-clause-puts g c =
-    let o : ℕ = c.cycled_offset-offset.result in
-    let offset = c.cycled_offset-offset.ensures in
-    subst (λ b. Puts c.args.hand.now b c.args.counter c.give.new.hand) (sym c.give.ensures.block)
-    (puts c.args.hand.now c.cycled_offset-offset.new.hand c.store_mark.new.hand c.store_trailer.new.hand c.give.new.hand c.args.slot o c.args.n _ _ _ c.args.counter (ap (λ s. s + 16 * o) c.start.ensures) offset.whole c.requires.fits offset.cycles c.store_mark.ensures.rest c.store_trailer.ensures.rest c.give.ensures.view
-    (subst (HasFramed c.give.new.hand) c.give.ensures.block c.give.ensures.has))
 
 pub returns-clause-still : goal.returns-clause-still
 returns-clause-still g c =
-    given_still c.args.hand.now.view c.cycled_offset-offset.new.hand.view c.store_mark.new.hand.view c.store_trailer.new.hand.view c.give.new.hand.view c.args.slot
-    (λ a. c.args.slot.start ≤ a) (λ a. a < c.args.slot.start) _ _ _ _ c.cycled_offset-offset.ensures.own c.store_mark.ensures.own c.store_trailer.ensures.own
+    given_still c.args.hand.now.view c.store_mark.new.hand.view c.store_trailer.new.hand.view c.give.new.hand.view c.args.slot
+    (λ a. c.args.slot.start ≤ a) (λ a. a < c.args.slot.start) _ _ _ _ c.store_mark.ensures.own c.store_trailer.ensures.own
     c.give.ensures.view
 
--- what the hand has besides once the frame is stored, and once the block is given
+-- what the hand has besides once the frame is stored
 framed_others : (g : Over) (c : goal.After-give g) → KeepsOthers c.args.slot c.args.hand.now.view c.store_trailer.new.hand.view
-framed_others g c =
-    let slot = c.args.slot in
-    others_then slot _ _ _ c.cycled_offset-offset.ensures.others (others_then slot _ _ _ c.store_mark.ensures.others c.store_trailer.ensures.others)
+framed_others g c = others_then c.args.slot _ _ _ c.store_mark.ensures.others c.store_trailer.ensures.others
 
 pub returns-clause-others : goal.returns-clause-others
 returns-clause-others g c =
@@ -44,16 +33,16 @@ returns-clause-others g c =
 
 pub returns-clause-rest : goal.returns-clause-rest
 returns-clause-rest g c =
-    rest_then _ _ _ c.cycled_offset-offset.ensures.rest (rest_then _ _ _ c.store_mark.ensures.rest (rest_then _ _ _ c.store_trailer.ensures.rest (given_rest c.store_trailer.new.hand.view c.give.new.hand.view c.args.slot _ _ _ _ c.give.ensures.view)))
+    rest_then _ _ _ c.store_mark.ensures.rest (rest_then _ _ _ c.store_trailer.ensures.rest (given_rest c.store_trailer.new.hand.view c.give.new.hand.view c.args.slot _ _ _ _ c.give.ensures.view))
 
 pub returns-clause-each : goal.returns-clause-each
 returns-clause-each g c = λ framed.
     given_each c.store_trailer.new.hand c.give.new.hand c.args.slot _ _ _ _ c.store_trailer.ensures.slot c.give.ensures.view (subst (HasFramed c.give.new.hand) c.give.ensures.block c.give.ensures.has)
-    (c.store_trailer.ensures.each (c.store_mark.ensures.each (c.cycled_offset-offset.ensures.each framed)))
+    (c.store_trailer.ensures.each (c.store_mark.ensures.each framed))
 
 pub returns-clause-apart : goal.returns-clause-apart
 returns-clause-apart g c = λ other has.
-    let number = c.store_trailer.ensures.number ∙ c.store_mark.ensures.number ∙ c.cycled_offset-offset.ensures.number in
+    let number = c.store_trailer.ensures.number ∙ c.store_mark.ensures.number in
     let apart = live_apart c.args.hand.now c.args.slot other c.requires.slot has in
     let still = block_kept c.args.hand.now c.store_trailer.new.hand c.args.slot number (framed_others g c) other apart has in
     subst (λ (b : BlockToken). other.at ≢ b.at) (sym c.give.ensures.block) (c.give.ensures.apart other still)

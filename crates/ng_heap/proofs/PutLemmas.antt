@@ -1,0 +1,60 @@
+-- A block is put into the slot that came.
+use Rattle.std.proofs.Common.{◌≡◌, ℕ, ◌+◌, ◌*◌, ◌%◌, refl, sym, ◌∙◌, subst, ⊎_elim, inl, inr, arith}
+use Rattle.ng_policy.specs.declared.ask.Ask.{Ask}
+use Rattle.ng_view.specs.declared.view.Held.{Held}
+use Rattle.ng_view.specs.declared.view.Place.{Place}
+use Rattle.ng_view.specs.declared.view.View.{View}
+use Rattle.ng_frame.specs.Keeps.{KeepsAll, KeepsOthers, KeepsRest, Learns, LiesStill, Stays}
+use Rattle.ng_frame.specs.Puts.{Cycles, IsNear}
+use Rattle.ng_frame.proofs.Frames.{given_by_cycle}
+use Rattle.ng_space.specs.Blocks.{BlockToken, HasFramed, OfSlot, Serves}
+use Rattle.ng_space.specs.Callers.{Caller}
+use Rattle.ng_space.specs.Tokens.{HasSlot, Token}
+use Rattle.ng_group.specs.Hands.{GainsSlot}
+use Rattle.ng_group.specs.States.{State}
+use Rattle.ng_heap.specs.Causes.{BuildsFor, HasClass, IsGivenNow}
+
+-- ---- the slot lies where it did
+pub lies_then : (m i : ℕ) (v u w : View) → Stays m i v u Learns → Stays m i u w LiesStill → Stays m i v w LiesStill
+lies_then m i v u w one two h found = let k = one h found in let l = two k.0 k.1 in (l.0, l.1, l.2 ∙ k.2.place)
+
+pub still_serves : (old new : Caller) (slot : Token) (n : ℕ) → HasSlot old slot → KeepsAll old.view new.view
+    → OfSlot old slot (Serves n 16) → OfSlot new slot (Serves n 16)
+still_serves old new slot n has kept serves h found =
+    let k = kept.slots slot.meta slot.index has.held has.found in
+    let q : k.0 ≡ h = cc in
+    subst (Serves n 16) q (subst (λ (p : Place). Serves n 16 (record k.0 { place = p })) (sym k.2.place) (serves has.held has.found))
+
+-- the slot's class is the same once a block was put into it
+put_class : (class : ℕ) (mid after : Caller) (slot : Token) → HasSlot mid slot → Stays slot.meta slot.index mid.view after.view LiesStill
+    → HasClass mid slot class → HasClass after slot class
+put_class class mid after slot has stays is h found =
+    let k = stays has.held has.found in
+    let q : k.0 ≡ h = cc in
+    let of_class : k.0.place.group.tag ≡ class + 1 = subst (λ (p : Place). p.group.tag ≡ class + 1) (sym k.2) (is has.held has.found) in
+    subst (λ (y : Held). y.place.group.tag ≡ class + 1) q of_class
+
+pub put_builds : {M P : Type 0} (counts : Ask → ℕ → Type 0) (before core : State M P) (n : ℕ) (mid after : Caller) (slot other : Token) → other ≡ slot
+    → HasSlot mid slot → Stays slot.meta slot.index mid.view after.view LiesStill
+    → BuildsFor counts before core n mid slot → BuildsFor counts before core n after other
+put_builds counts before core n mid after slot other same has stays builds =
+    subst (λ t. BuildsFor counts before core n after t) (sym same) (⊎_elim
+    (λ large. inl (large.0, put_class 63 mid after slot has stays large.1, large.2))
+    (λ small. let of = small.1 in inr (small.0, (of.0, of.1, of.2, put_class of.1 mid after slot has stays of.3, of.4)))
+    builds)
+
+-- ---- the word that was found gives the block's place
+pub given_now : (before came found : View) (after : Caller) (slot : Token) (n counter o : ℕ) (block : BlockToken)
+    → block ≡ record { slot = slot; at = slot.start + 16 * o; len = n; align = 16 } → GainsSlot slot.meta slot.index before came
+    → Cycles came slot n counter o found → IsNear slot n o → KeepsOthers slot found after.view → KeepsRest found after.view
+    → HasFramed after block → IsGivenNow before block counter after
+given_now before came found after slot n counter o block is gains cycles near others rest framed =
+    subst (λ (b : BlockToken). IsGivenNow before b counter after) (sym is) (record {
+      came = came;
+      gains = gains;
+      word = cycles.word;
+      others = subst (λ (v : View). KeepsOthers slot v after.view) cycles.view others;
+      rest = subst (λ (v : View). KeepsRest v after.view) cycles.view rest;
+      given = given_by_cycle after slot o n (slot.start + 16 * o) (cycles.word % 4294967296) counter refl near.whole
+          (let within = near.within in omega (arith, within)) cycles.offset_is (subst (HasFramed after) is framed);
+    })
