@@ -1,5 +1,5 @@
 // A heap with one hand, its core, and slots of it.
-ghost use Rattle.std.specs.Prelude.{◌≡◌, ◌≤◌, ◌∷◌, [], IfOk, IfSome, OnSome};
+ghost use Rattle.std.specs.Prelude.{◌≡◌, ◌≤◌, ◌∷◌, [], IfOk, IfSome, OnSome, length};
 ghost use Rattle.ng_group.specs.Hands.{IsApart};
 ghost use Rattle.ng_group.specs.Tests.{AreParts};
 ghost use Rattle.ng_policy.specs.Ask.{AskInRange, IsCount};
@@ -10,7 +10,7 @@ use ng_group::{Core, Tables};
 use ng_mapper::FirstFit;
 use ng_policy::{Ask, Kept, Rules, Spare, musl_count, musl_keep};
 use ng_space::{Blank, Hand, Name, Slot, Space, Start};
-use ng_terms::Host;
+use ng_terms::{Host, LARGE};
 use std::alloc::Global;
 
 const PAGES: u32 = 4096;
@@ -32,7 +32,7 @@ pub fn parts(alloc: Global) -> Result<(Blank, Tables, FirstFit), Host>
         upper: 0x100_0000,
         secret: 0x0123_4567_89ab_cdef,
         refusals: 0,
-        cap: 0,
+        cap: LARGE - 1,
     };
     let blank = Blank::new(alloc, start, &[1])?;
     let tables = Tables::new(alloc, PAGES)?;
@@ -50,6 +50,8 @@ pub fn begin<N: Name, P: Rules + Drop>(
 ) -> Result<(Space<N>, Core<N, FirstFit, P>, Vec<Hand<N>>), Host>
     requires table { blank.table ≡ N.facts.table }
     requires start { blank.start ≡ N.facts.start }
+    requires hands { length blank.rooms ≡ N.facts.hands }
+    requires most { N.facts.most ≡ 0 }
     requires parts { AreParts blank tables mapper }
     requires good { P.good rules }
     ensures { IfOk result (λ made. made.2.items ≡ fresh_callers 1 blank.rooms) }

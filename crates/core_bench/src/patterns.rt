@@ -28,6 +28,8 @@ pub fn run<N: Name, P: Rules + Drop>(
 ) -> Result<bool, Host>
     requires table { blank.table ≡ N.facts.table }
     requires start { blank.start ≡ N.facts.start }
+    requires hands { length blank.rooms ≡ N.facts.hands }
+    requires most { N.facts.most ≡ 0 }
     requires parts { AreParts blank tables mapper }
     requires rooms { blank.rooms ≡ 1 ∷ [] }
     requires good { P.good rules }

@@ -1,13 +1,11 @@
 -- Hands that have done nothing yet, and rooms for the books of logs.
-use Rattle.std.proofs.Common.{◌≡◌, ℕ, suc, ◌+◌, ◌<◌, ◌≤◌, List, [], ◌∷◌, length, slice_index_or, refl, sym, ap, subst, inl, inr, ⊎_elim, arith}
+use Rattle.std.proofs.Common.{◌≡◌, ℕ, suc, ◌+◌, ◌<◌, ◌≤◌, List, [], ◌∷◌, length, slice_index_or, refl, sym, ap, ◌∙◌, subst, inl, inr, ⊎_elim, arith}
 use Rattle.std.proofs.lemmas.Bool.{cases_lt}
 use Rattle.std.proofs.lemmas.List.Sums.{get_or-le-sum_by}
-use Rattle.ng_space.specs.Callers.{Caller, fresh_caller, fresh_callers, opened}
+use Rattle.ng_space.specs.Callers.{Caller, fresh_caller, fresh_callers}
 use Rattle.ng_space.specs.Closings.{AreAll, HasNumber, IsEven}
 use Rattle.ng_terms.specs.Calls.{op_count}
 use Rattle.ng_terms.specs.declared.plan.Op.{Op}
-use Rattle.ng_view.specs.declared.view.Start.{Start}
-use Rattle.ng_view.specs.declared.view.View.{View}
 
 -- no log has more ops than all logs
 pub ops_within : (logs : List (List Op)) (log : ℕ) (other : List Op) → log < length logs → length (slice_index_or logs log other) ≤ op_count logs
@@ -34,19 +32,12 @@ numbers-fresh first (room ∷ rooms) number from below =
     (λ (low : number ≤ first). HasNumber-first first room rooms number (omega (arith, from, low)))
     (cases_lt first number)
 
--- these are all hands of a lock's seat that was opened for so many
-all-fresh : (start : Start) (rooms : List ℕ) → AreAll (opened start (length rooms)) (fresh_callers 1 rooms)
-all-fresh start rooms = record {
-  count = ap (λ (n : ℕ). 1 + n) (length-fresh 1 rooms);
-  each = λ number some_hand below.
-      let within : number < 1 + length rooms = below in numbers-fresh 1 rooms number (omega (arith, some_hand)) within;
-}
-
-pub all_opened : (start : Start) (rooms : List ℕ) (lock : View) (hands : List Caller) → lock ≡ opened start (length rooms) → hands ≡ fresh_callers 1 rooms
-    → AreAll lock hands
-all_opened start rooms lock hands lock_is hands_are =
-    subst (λ (v : View). AreAll v hands) (sym lock_is)
-    (subst (λ (hs : List Caller). AreAll (opened start (length rooms)) hs) (sym hands_are) (all-fresh start rooms))
+-- these are all hands of a heap that was opened for so many
+pub all_opened : (count : ℕ) (rooms : List ℕ) (hands : List Caller) → length rooms ≡ count → hands ≡ fresh_callers 1 rooms → AreAll count hands
+all_opened count rooms hands many fresh = subst (λ (hs : List Caller). AreAll count hs) (sym fresh) (record {
+  many = length-fresh 1 rooms ∙ many;
+  each = λ number some_hand within. numbers-fresh 1 rooms number (omega (arith, some_hand)) (omega (arith, many, within));
+})
 
 -- and none of them has sent a parcel
 even-fresh : (first : ℕ) (rooms : List ℕ) → IsEven (fresh_callers first rooms)

@@ -1,5 +1,5 @@
 -- A closed heap: its last words, the books of its hands, and the replies to the ops.
-use Rattle.std.specs.Prelude.{◌≡◌, ℕ, true, false, List, [], ◌∷◌, map}
+use Rattle.std.specs.Prelude.{◌≡◌, ℕ, true, false, List, [], ◌∷◌, map, slice_index_or}
 use Rattle.ng_frame.specs.Framed.{AreFramed}
 use Rattle.ng_history.specs.Book as book
 use Rattle.ng_ledger.specs.Runs.{AreMapped}
@@ -26,6 +26,10 @@ program_secret = 81985529216486895
 -- the entries of books
 abbrev pub entries_of : List book.Shown → List (List Entry)
 entries_of books = map (λ (b : book.Shown). b.entries) books
+
+-- the number of the book of a log
+abbrev pub number_at : List book.Shown → ℕ → ℕ
+number_at books log = (slice_index_or books log (record { number = 0; spare = 0; entries = [] })).number
 
 -- the words are a lawful image of the mapper's space, between its bounds and over its live runs, with what the lock's seat,
 -- which leads, and the hands knew at the end: each noted run is the mapper's, and an area or that of a live group, and metas

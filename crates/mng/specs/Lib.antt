@@ -4,3 +4,4 @@ pub mod Statuses
 pub mod Inputs
 pub mod Closed
 pub mod Tool
+pub mod Caps

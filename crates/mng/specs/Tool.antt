@@ -1,5 +1,5 @@
 -- What the top call owes for each status.
-use Rattle.std.specs.Prelude.{◌≡◌, ℕ, Bool, List, [], ◌∷◌, Option, sum_by}
+use Rattle.std.specs.Prelude.{◌≡◌, ℕ, ◌+◌, ◌<◌, Bool, List, [], ◌∷◌, Option, length, sum_by}
 use Rattle.ng_mapper.specs.Mapping.{Span}
 use Rattle.ng_mapper.specs.Runs as mapper
 use Rattle.ng_mtrace.specs.Streams.{added, WritesPart}
@@ -7,7 +7,7 @@ use Rattle.ng_replay.specs.Serving.{plain}
 use Rattle.ng_terms.specs.declared.plan.Plan.{Plan}
 use Rattle.ng_terms.specs.Accounts.{Account, Counts}
 use Rattle.ng_terms.specs.Reports.{report}
-use Rattle.mng.specs.Closed.{IsImageOf, entries_of, program_secret}
+use Rattle.mng.specs.Closed.{IsImageOf, entries_of, number_at, program_secret}
 use Rattle.mng.specs.Inputs.{PlansInput}
 use Rattle.mng.specs.Words.{ShowsCalls}
 use Rattle.mng.specs.declared.closed.Closed.{Closed}
@@ -15,11 +15,13 @@ use Rattle.mng.specs.declared.status.Status.{Status}
 use Rattle.mng.specs.declared.status.Status.TheVariants.{Done, Usage, ReadFault, BadLine, Limit, NoLog, WriteFault, Host}
 
 -- a run of a plan in a mapper's space: the heap that was closed has the pages of the space, and replies and books with which
--- its account holds, its words are a lawful image that goes with the same history, and this text is the report of the replies
+-- its account holds, the books numbered by the logs from 1 on; its words are a lawful image that goes with the same history,
+-- and this text is the report of the replies
 pub record Runs (plan : Plan) (calls_shown : Bool) (span : Span) (before now : Counts) (live : List mapper.Run) (closed : List Closed) (text : List ℕ) : Type 0 where
   pub heap : Closed
   pub one : closed ≡ heap ∷ []
   pub pages : heap.image.pages ≡ span.size
+  pub numbers : (log : ℕ) → log < length plan.logs → number_at heap.books log ≡ log + 1
   pub account : Account plan plain heap.replies (entries_of heap.books) span.size before now
   pub image : IsImageOf program_secret span heap.image.words live account.history
   pub reported : text ≡ report plan plain calls_shown heap.replies (sum_by (λ run. run.1) live)

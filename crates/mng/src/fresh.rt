@@ -3,9 +3,11 @@ ghost use Rattle.std.specs.Prelude.{◌≡◌, ◌<◌, ◌≤◌, ◌*◌, ◌^
 ghost use Rattle.mng.specs.Closed.{program_secret};
 ghost use Rattle.ng_group.specs.Opening.{AreEmpty};
 ghost use Rattle.ng_replay.specs.Books.{rooms_for};
+ghost use Rattle.ng_replay.specs.Serving.{IsCapOf};
 ghost use Rattle.ng_terms.specs.Calls.{op_count};
 ghost use Rattle.ng_view.specs.Layouts.{InRange};
 
+use crate::cap::cap_of;
 use crate::closed::Closed;
 use ng_group::Tables;
 use ng_mapper::Mapper;
@@ -43,12 +45,13 @@ impl Fresh {
         ensures upper { IfOk result (λ fresh. fresh.blank.start.upper ≡ (M.span mapper.now).upper) }
         ensures refused { IfOk result (λ fresh. fresh.blank.start.refusals ≡ (M.refused mapper.now).count) }
         ensures secret { IfOk result (λ fresh. fresh.blank.start.secret ≡ program_secret) }
+        ensures cap { IfOk result (λ fresh. IsCapOf fresh.blank.start.cap plan.now) }
         ensures tables { IfOk result (λ fresh. AreEmpty (M.span mapper.now).size fresh.tables) }
     {
         let Ok(rooms) = rooms(alloc, plan.logs.as_slice()) else {
             return Err(Host);
         };
-        let blank = Blank::new(alloc, start_of(mapper), rooms.as_slice())?;
+        let blank = Blank::new(alloc, start_of(mapper, plan), rooms.as_slice())?;
         let tables = Tables::new(alloc, mapper.pages())?;
         let Ok(closed) = Vec::with_capacity(alloc, 1) else {
             return Err(Host);
@@ -61,8 +64,8 @@ impl Fresh {
     }
 }
 
-/// What a heap over the mapper starts with.
-fn start_of<M: Mapper>(mapper: &M) -> Start
+/// What a heap over the mapper starts with, for the ops of a plan.
+fn start_of<M: Mapper>(mapper: &M, plan: &Plan) -> Start
     requires least { 16 ≤ (M.span mapper.now).size }
     requires most { (M.span mapper.now).size ≤ 16384 }
     requires refusals { (M.refused mapper.now).count < 2 ^ 62 }
@@ -72,6 +75,7 @@ fn start_of<M: Mapper>(mapper: &M) -> Start
     ensures upper { result.upper ≡ (M.span mapper.now).upper }
     ensures refused { result.refusals ≡ (M.refused mapper.now).count }
     ensures secret { result.secret ≡ program_secret }
+    ensures cap { IsCapOf result.cap plan.now }
 {
     let (lower, upper) = mapper.bounds();
     Start {
@@ -80,8 +84,7 @@ fn start_of<M: Mapper>(mapper: &M) -> Start
         upper,
         secret: SECRET,
         refusals: mapper.refusals(),
-        // No law of the cells speaks of the largest request.
-        cap: 0,
+        cap: cap_of(plan),
     }
 }
 

@@ -3,6 +3,7 @@
 
 mod asked;
 mod choices;
+mod cap;
 mod closed;
 mod fresh;
 mod numbers;

@@ -6,8 +6,8 @@ ghost use Rattle.ng_group.specs.Opening.{AreEmpty, IsFreshMapper};
 ghost use Rattle.ng_plan.specs.Sound.{IsSound};
 ghost use Rattle.ng_replay.specs.Books.{rooms_for};
 ghost use Rattle.ng_replay.specs.Room.{HasRoom};
-ghost use Rattle.ng_replay.specs.Serving.{counts_of};
-ghost use Rattle.ng_space.specs.Callers.{fresh_callers, opened};
+ghost use Rattle.ng_replay.specs.Serving.{IsCapOf, counts_of};
+ghost use Rattle.ng_space.specs.Callers.{fresh_callers};
 ghost use Rattle.ng_terms.specs.Causes.{Rose};
 
 use crate::closed::Closed;
@@ -49,11 +49,15 @@ pub fn run<N: Name, O: Sink, M: Mapper, P: Rules + Drop>(
     requires rooms { fresh.blank.rooms ≡ rooms_for prepared.plan }
     requires tables { AreEmpty N.facts.start.pages fresh.tables }
     requires mapper { IsFreshMapper N.facts.start (M.span mapper) (M.runs mapper) (M.refused mapper) }
+    requires most { (M.refused mapper).most ≡ N.facts.most }
+    requires hands { length prepared.plan.logs ≡ N.facts.hands }
+    requires cap { IsCapOf N.facts.start.cap prepared.plan }
     ensures late { (result.0 ≡ Status.Host) ⊎ IsLate result.0 }
     ensures write_fault { result.0 ≡ Status.WriteFault → Rose (O.faults out.old) (O.faults out.new) }
     ensures ends { IsLate result.0 → Ends prepared.plan prepared.calls_shown (M.span mapper)
         (counts_of (M.refused mapper)) (counts_of (M.refused result.1)) (M.runs result.1) result.2.items
         (O.written out.old) (O.written out.new) result.0 }
+    ensures span { M.span result.1 ≡ M.span mapper }
     ensures nothing { result.0 ≡ Status.Host → O.written out.new ≡ O.written out.old }
     ensures handed_back { result.0 ≡ Status.Host → result.1 ≡ mapper }
     ensures none { result.0 ≡ Status.Host → result.2.items ≡ [] }
@@ -95,13 +99,16 @@ fn reported<N: Name, M: Mapper, P: Rules + Drop>(
     requires sound { IsSound prepared.plan }
     requires secret { N.facts.start.secret ≡ program_secret }
     requires mapper { IsFreshMapper N.facts.start (M.span core.mapper) (M.runs core.mapper) (M.refused core.mapper) }
+    requires most { (M.refused core.mapper).most ≡ N.facts.most }
+    requires cap { IsCapOf N.facts.start.cap prepared.plan }
     requires hands { hands.items ≡ fresh_callers 1 (rooms_for prepared.plan) }
-    requires seat { core.seat ≡ opened N.facts.start (length prepared.plan.logs) }
+    requires all { length prepared.plan.logs ≡ N.facts.hands }
     requires room { HasRoom room prepared.plan }
     requires none { closed.items ≡ [] }
     requires one { 1 ≤ vec_capacity closed }
     ensures runs { Runs prepared.plan prepared.calls_shown (M.span core.mapper)
         (counts_of (M.refused core.mapper)) (counts_of (M.refused result.0)) (M.runs result.0) result.1.items result.2.items }
+    ensures span { M.span result.0 ≡ M.span core.mapper }
 {
     let Prepared {
         plan,

@@ -69,6 +69,9 @@ pub fn tool<I: Source, O: Sink, M: Mapper, C: Fn(Ask) -> u32 + Drop, K: Fn(Spare
         → ¬ Rose (I.faults input.old) (I.faults input.new) → ¬ Rose (O.faults out.old) (O.faults out.new)
         → (result.0 ≡ Status.Done) ⊎ (result.0 ≡ Status.Host) }
 
+    // The mapper that comes back is of the same space, with every status.
+    ensures span { M.span result.1 ≡ M.span mapper }
+
     // With the statuses before the first heap call nothing was written, and the mapper is as it was.
     ensures nothing { IsEarly result.0 → O.written out.new ≡ O.written out.old }
     ensures handed_back { IsEarly result.0 → result.1 ≡ mapper }

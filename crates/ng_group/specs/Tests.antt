@@ -9,15 +9,16 @@ use Rattle.ng_space.specs.Tokens.{HasSlot, Token}
 use Rattle.ng_view.specs.declared.view.Start.{Start}
 use Rattle.ng_group.specs.Opening.{AreEmpty, Empty, IsFreshMapper}
 
--- a space of 4096 pages, all but the first of which may be mapped
+-- a space of 4096 pages, all but the first of which may be mapped, and requests up to the largest
 abbrev pub test_start : Start
-test_start = record { pages = 4096; lower = 4096; upper = 16777216; secret = 81985529216486895; refusals = 0; cap = 0 }
+test_start = record { pages = 4096; lower = 4096; upper = 16777216; secret = 81985529216486895; refusals = 0; cap = 9223372036854771710 }
 
 -- the memory of a heap and of a core for that space, and a mapper of it that has given nothing yet
 pub record AreParts (blank : BlankHeap) (tables : Empty) (mapper : FirstFit) : Type 0 where
   pub starts : blank.start ≡ test_start
   pub empty : AreEmpty 4096 tables
   pub fresh : IsFreshMapper test_start (span_of mapper) (runs_of mapper) (refused_of mapper)
+  pub calm : (refused_of mapper).most ≡ 0
 
 -- the tokens are of one slot
 abbrev pub is_same_slot : Token → Token → Bool

@@ -1,5 +1,5 @@
 // A heap with one hand and its core, over musl's rules, as each test begins with.
-ghost use Rattle.std.specs.Prelude.{◌≡◌, ◌∷◌, [], IfOk};
+ghost use Rattle.std.specs.Prelude.{◌≡◌, ◌∷◌, [], IfOk, length};
 ghost use Rattle.ng_group.specs.Tests.{AreParts};
 ghost use Rattle.ng_policy.specs.Ask.{AskInRange, IsCount};
 ghost use Rattle.ng_space.specs.Callers.{fresh_callers};
@@ -8,6 +8,7 @@ use ng_group::{Core, Tables};
 use ng_mapper::FirstFit;
 use ng_policy::{Ask, Kept, Rules, Spare, musl_count, musl_keep};
 use ng_space::{Blank, Hand, Host, Name, Space, Start};
+use ng_terms::LARGE;
 use std::alloc::Global;
 
 const PAGES: u32 = 4096;
@@ -28,7 +29,7 @@ pub(crate) fn parts(
         upper: 0x100_0000,
         secret: 0x0123_4567_89ab_cdef,
         refusals: 0,
-        cap: 0,
+        cap: LARGE - 1,
     };
     let blank = Blank::new(alloc, start, &[room])?;
     let tables = Tables::new(alloc, PAGES)?;
@@ -46,6 +47,8 @@ pub(crate) fn begin<N: Name, P: Rules + Drop>(
 ) -> Result<(Space<N>, Core<N, FirstFit, P>, Vec<Hand<N>>), Host>
     requires table { blank.table ≡ N.facts.table }
     requires start { blank.start ≡ N.facts.start }
+    requires hands { length blank.rooms ≡ N.facts.hands }
+    requires most { N.facts.most ≡ 0 }
     requires parts { AreParts blank tables mapper }
     requires good { P.good rules }
     ensures { IfOk result (λ made. made.2.items ≡ fresh_callers 1 blank.rooms) }

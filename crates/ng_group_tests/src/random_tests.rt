@@ -81,6 +81,8 @@ fn run<N: Name, P: Rules + Drop, R: Abort>(
 ) -> Result<(), Fail>
     requires table { blank.table ≡ N.facts.table }
     requires start { blank.start ≡ N.facts.start }
+    requires hands { length blank.rooms ≡ N.facts.hands }
+    requires most { N.facts.most ≡ 0 }
     requires parts { AreParts blank tables mapper }
     requires rooms { blank.rooms ≡ CALLS ∷ [] }
     requires good { P.good rules }
@@ -118,6 +120,7 @@ fn call_once<N: Name, P: Rules, R: Abort>(
     requires slots { HasAll hand.old slots.old.items }
     requires few { length slots.old.items ≤ MOST }
     requires room { MOST ≤ vec_capacity slots.old }
+    requires cap { 9223372036854771710 ≤ N.facts.start.cap }
     ensures slots { HasAll hand.new slots.new.items }
     ensures few { length slots.new.items ≤ MOST }
     ensures room { MOST ≤ vec_capacity slots.new }
@@ -151,6 +154,7 @@ fn request<N: Name, P: Rules>(
     bytes: u64,
 ) -> Result<Slot<N>, Excuse<N>>
     requires bytes { bytes < 9223372036854771711 }
+    requires cap { 9223372036854771710 ≤ N.facts.start.cap }
     ensures slot { IfOk result (HasSlot hand.new) }
     ensures apart { IfOk result (λ slot. (token : Token) → HasSlot hand.old token → IsApart token slot) }
     ensures others { (token : Token) → HasSlot hand.old token → HasSlot hand.new token }

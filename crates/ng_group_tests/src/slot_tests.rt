@@ -1,5 +1,5 @@
 // Calls for slots over musl's rules, and a mapper that gives the lowest runs.
-ghost use Rattle.std.specs.Prelude.{◌≡◌, ◌∷◌, []};
+ghost use Rattle.std.specs.Prelude.{◌≡◌, ◌∷◌, [], length};
 ghost use Rattle.ng_group.specs.Hands.{IsApart};
 ghost use Rattle.ng_group.specs.Tests.{AreParts};
 ghost use Rattle.ng_space.specs.Tokens.{HasSlot, Token};
@@ -32,6 +32,8 @@ fn serve_four<N: Name, P: Rules + Drop, R: Abort>(
 ) -> Result<(), Fail>
     requires table { blank.table ≡ N.facts.table }
     requires start { blank.start ≡ N.facts.start }
+    requires hands { length blank.rooms ≡ N.facts.hands }
+    requires most { N.facts.most ≡ 0 }
     requires parts { AreParts blank tables mapper }
     requires rooms { blank.rooms ≡ 4 ∷ [] }
     requires good { P.good rules }
@@ -92,6 +94,8 @@ fn refuse_one<N: Name, P: Rules + Drop, R: Abort>(
 ) -> Result<(), Fail>
     requires table { blank.table ≡ N.facts.table }
     requires start { blank.start ≡ N.facts.start }
+    requires hands { length blank.rooms ≡ N.facts.hands }
+    requires most { N.facts.most ≡ 0 }
     requires parts { AreParts blank tables mapper }
     requires rooms { blank.rooms ≡ 4 ∷ [] }
     requires good { P.good rules }

@@ -32,6 +32,7 @@ impl<N: Name> Heap<N> {
         n: u64,
     ) -> Result<Block<N>, AllocRefusal>
         requires spare { 1 ≤ hand.old.spare }
+        requires cap { n < large → n ≤ N.facts.start.cap }
 
         // The block is framed and alone in its slot, which is of the class that was chosen for it, and what was built
         // was wanted for it.
@@ -87,6 +88,7 @@ impl<N: Name> Heap<N> {
         n: u64,
     ) -> Result<Slot<N>, Excuse<N>>
         requires small { n < large }
+        requires cap { n ≤ N.facts.start.cap }
         ensures builds { IfOk result (BuildsFor (P.count_gives core.old.rules) core.old core.new n hand.new) }
         ensures serves { IfOk result (λ slot. OfSlot hand.new slot (Serves n 16)) }
         ensures roomy { IfOk result (λ slot. n + 4 ≤ slot.room) }

@@ -1,17 +1,17 @@
 // Blocks that come and go over musl's rules, and a mapper that gives the lowest runs.
-ghost use Rattle.std.specs.Prelude.{◌≡◌, ◌∷◌, [], IfOk};
+ghost use Rattle.std.specs.Prelude.{◌≡◌, ◌∷◌, [], IfOk, length, ◌+◌, ◌≤◌};
 ghost use Rattle.ng_group.specs.Hands.{IsApart};
 ghost use Rattle.ng_group.specs.Tests.{AreParts};
 ghost use Rattle.ng_heap.specs.Keeps.{IsFresh};
 ghost use Rattle.ng_heap.specs.Tests.{MayClose};
 ghost use Rattle.ng_policy.specs.Ask.{AskInRange, IsCount};
 ghost use Rattle.ng_space.specs.Blocks.{BlockToken, HasBlock};
-ghost use Rattle.ng_terms.specs.Heap.{empty};
+ghost use Rattle.ng_terms.specs.Heap.{empty, large};
 ghost use Rattle.ng_view.specs.declared.view.View.{View};
 
 use crate::{AllocRefusal, Damage, Heap, Needs, Unlocked};
 use ng_group::{Core, Tables};
-use ng_history::{Entry, Live};
+use ng_history::{Entry, LARGE, Live};
 use ng_mapper::FirstFit;
 use ng_policy::{Ask, Kept, Policy, Rules, Spare, musl_count, musl_keep};
 use ng_space::{Blank, Block, Hand, Host, Name, Start};
@@ -35,7 +35,7 @@ fn parts(alloc: Global) -> Result<(Blank, Tables, FirstFit), Host>
         upper: 0x100_0000,
         secret: 0x0123_4567_89ab_cdef,
         refusals: 0,
-        cap: 0,
+        cap: LARGE - 1,
     };
     let blank = Blank::new(alloc, start, &[ROOM])?;
     let tables = Tables::new(alloc, PAGES)?;
@@ -53,6 +53,8 @@ fn begin<N: Name, P: Rules + Drop>(
 ) -> Result<(Heap<N>, Core<N, FirstFit, P>, Hand<N>), Host>
     requires table { blank.table ≡ N.facts.table }
     requires start { blank.start ≡ N.facts.start }
+    requires hands { length blank.rooms ≡ N.facts.hands }
+    requires most { N.facts.most ≡ 0 }
     requires parts { AreParts blank tables mapper }
     requires rooms { blank.rooms ≡ ROOM ∷ [] }
     requires good { P.good rules }
@@ -91,6 +93,7 @@ fn given<N: Name, P: Rules, R: Abort>(
     at: u64,
 ) -> Block<N>
     requires closes { MayClose core.old.seat hand.old }
+    requires cap { large ≤ N.facts.start.cap + 1 }
     ensures block { HasBlock hand.new result }
     ensures fresh { IsFresh hand.old result.slot }
     ensures blocks { (other : BlockToken) → HasBlock hand.old other → HasBlock hand.new other }
@@ -159,6 +162,7 @@ fn end<N: Name, P: Rules + Drop, R: Abort>(
     entries: usize,
 ) -> Result<(), Fail>
     requires closes { MayClose core.seat hand }
+    requires hands { N.facts.hands ≡ 1 }
 {
     let (image, books, _mapper) = heap.close(core, vec![in alloc; hand]?);
     assert_eq!(rt; image.pages(), PAGES);
@@ -185,6 +189,8 @@ fn free_three<N: Name, P: Rules + Drop, R: Abort>(
 ) -> Result<(), Fail>
     requires table { blank.table ≡ N.facts.table }
     requires start { blank.start ≡ N.facts.start }
+    requires hands { length blank.rooms ≡ N.facts.hands }
+    requires most { N.facts.most ≡ 0 }
     requires parts { AreParts blank tables mapper }
     requires rooms { blank.rooms ≡ ROOM ∷ [] }
     requires good { P.good rules }
@@ -226,6 +232,8 @@ fn give_large<N: Name, P: Rules + Drop, R: Abort>(
 ) -> Result<(), Fail>
     requires table { blank.table ≡ N.facts.table }
     requires start { blank.start ≡ N.facts.start }
+    requires hands { length blank.rooms ≡ N.facts.hands }
+    requires most { N.facts.most ≡ 0 }
     requires parts { AreParts blank tables mapper }
     requires rooms { blank.rooms ≡ ROOM ∷ [] }
     requires good { P.good rules }
@@ -248,6 +256,7 @@ fn refuse_largest<N: Name, P: Rules, R: Abort>(
     hand: &mut Hand<N>,
 )
     requires closes { MayClose core.old.seat hand.old }
+    requires cap { large ≤ N.facts.start.cap + 1 }
     ensures closes { MayClose core.new.seat hand.new }
 {
     assert!(rt; hand.spare() > 0);
@@ -276,6 +285,8 @@ fn free_damaged<N: Name, P: Rules + Drop, R: Abort>(
 ) -> Result<(), Fail>
     requires table { blank.table ≡ N.facts.table }
     requires start { blank.start ≡ N.facts.start }
+    requires hands { length blank.rooms ≡ N.facts.hands }
+    requires most { N.facts.most ≡ 0 }
     requires parts { AreParts blank tables mapper }
     requires rooms { blank.rooms ≡ ROOM ∷ [] }
     requires good { P.good rules }

@@ -97,6 +97,6 @@ cap-op plan place cap inside cap_of = by_op (op_in plan place) refl
     asked op is asks small = record { log = place.log; op = op; there = subst (Contains (get_or plan.logs place.log [])) is (Contains-get_or (get_or plan.logs place.log []) place.op (Make 0 0 None) inside.op); asks = asks; small = small }
 
     by_op : (op : Op) → op_in plan place ≡ op → size_of op < large → size_of op ≤ cap
-    by_op (Make name size to) is small = cap_of size (asked (Make name size to) is (inl refl) small)
+    by_op (Make name size to) is small = cap_of.greatest size (asked (Make name size to) is (inl refl) small)
     by_op (Free name origin) is small = omega arith
-    by_op (Move old name origin size to) is small = cap_of size (asked (Move old name origin size to) is (inl refl) small)
+    by_op (Move old name origin size to) is small = cap_of.greatest size (asked (Move old name origin size to) is (inl refl) small)

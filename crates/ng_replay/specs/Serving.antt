@@ -1,5 +1,5 @@
 -- What a heap's calls enter, and which blocks live after them.
-use Rattle.std.specs.Prelude.{ℕ, ◌≤◌, false, Option, Some, None}
+use Rattle.std.specs.Prelude.{◌≡◌, ◌⊎◌, ℕ, ◌≤◌, false, Option, Some, None}
 use Rattle.ng_group.specs.Hands.{IsApart}
 use Rattle.ng_mapper.specs.declared.refusals.Refusals.{Refusals}
 use Rattle.ng_space.specs.Blocks.{BlockToken}
@@ -11,9 +11,10 @@ use Rattle.ng_terms.specs.Accounts.{Counts, IsAsked}
 abbrev pub plain : Mode
 plain = record { align = None; zero = false }
 
--- no op of the plan asks for more bytes than the cap, but for those that are too large
-abbrev pub IsCapOf : ℕ → Plan → Type 0
-IsCapOf cap plan = (bytes : ℕ) → IsAsked plan plain bytes → bytes ≤ cap
+-- the most bytes that an op of the plan asks for, but for those that are too large; or 0
+pub record IsCapOf (cap : ℕ) (plan : Plan) : Type 0 where
+  pub asked : (cap ≡ 0) ⊎ IsAsked plan plain cap
+  pub greatest : (bytes : ℕ) → IsAsked plan plain bytes → bytes ≤ cap
 
 -- what an account needs of a mapper's refusals
 abbrev pub counts_of : Refusals → Counts

@@ -15,7 +15,7 @@ use ng_mtrace::{Line, Log, Logs};
 use ng_plan::plan;
 use ng_policy::{Ask, Kept, Policy, Rules, Spare, musl_count, musl_keep};
 use ng_space::{Blank, Book, Name, Start};
-use ng_terms::{Entry, Items, Plan, Reply};
+use ng_terms::{Entry, Items, LARGE, Plan, Reply};
 use std::alloc::Global;
 use std::marker::Brand;
 use std::process::Abort;
@@ -77,7 +77,7 @@ fn parts(alloc: Global, plan: &Plan) -> Result<(Blank, Tables, FirstFit), Fail>
         upper: 0x100_0000,
         secret: 0x0123_4567_89ab_cdef,
         refusals: 0,
-        cap: 0,
+        cap: LARGE - 1,
     };
     let rooms = rooms(alloc, plan)?;
     let blank = Blank::new(alloc, start, rooms.as_slice())?;
@@ -110,6 +110,8 @@ fn replayed<N: Name, P: Rules + Drop, R: Abort>(
 ) -> (Vec<Items<Reply>>, Vec<Book>)
     requires table { blank.table ≡ N.facts.table }
     requires start { blank.start ≡ N.facts.start }
+    requires hands { length blank.rooms ≡ N.facts.hands }
+    requires most { N.facts.most ≡ 0 }
     requires parts { AreParts blank tables mapper }
     requires rooms { blank.rooms ≡ rooms_for plan.now }
     requires good { P.good rules }

@@ -1,8 +1,13 @@
+use Rattle.std.proofs.Common.{ap, length, ◌∙◌}
+use Rattle.std.proofs.lemmas.List.{length-map}
 use Rattle.mng.proofs.OpenLemmas.{all_opened, even_opened}
 use Rattle.mng.proofs.run.run.Goals as goal
 
 pub close-image-requires-clause-all : goal.close-image-requires-clause-all
-close-image-requires-clause-all g c = all_opened g.N.Name.facts.start c.args.fresh.blank.rooms _ _ c.in-Ok.ensures.seat c.in-Ok.ensures.hands
+close-image-requires-clause-all g c = all_opened _ c.args.fresh.blank.rooms _ (ap length c.requires.rooms ∙ length-map _ _ ∙ c.requires.hands) c.in-Ok.ensures.hands
 
 pub close-image-requires-clause-parcels : goal.close-image-requires-clause-parcels
 close-image-requires-clause-parcels g c = even_opened c.args.fresh.blank.rooms _ c.in-Ok.ensures.hands
+
+pub open-heap-requires-clause-hands : goal.open-heap-requires-clause-hands
+open-heap-requires-clause-hands g c = ap length c.requires.rooms ∙ length-map _ _ ∙ c.requires.hands

@@ -7,4 +7,4 @@ pub close-image-requires-clause-all : goal.close-image-requires-clause-all
 close-image-requires-clause-all g c =
     let hand : Caller = c.args.hand in
     let may = c.requires.closes in
-    all_of_one _ _ (hand ∷ []) hand hand may.next refl c.in_ok-vec.ensures.items may.number
+    all_of_one _ _ (hand ∷ []) hand hand c.requires.hands refl c.in_ok-vec.ensures.items may.number
