@@ -30,7 +30,8 @@ class Mapper:
 
     def map(self, pages):
         self.calls += 1
-        page = -1 if self.calls in self.refused else self.used.find(bytes(pages))
+        is_refused = self.calls in self.refused or pages > len(self.used)
+        page = -1 if is_refused else self.used.find(bytes(pages))
         if page < 0:
             self.refusals += 1
             raise Refused(self.refusals)
