@@ -43,13 +43,20 @@ def arguments(description):
     return parser
 
 
+def open_log(path):
+    try:
+        return open(path, 'rb')
+    except OSError as error:
+        sys.exit(f'{path}: {error.strerror}')
+
+
 def report_of(asked):
     """The report's lines. Ends the tool with the program's own status where it doesn't end with 0."""
     if asked.report:
-        with open(asked.report, encoding='ascii') as stored:
-            return stored.read().splitlines()
+        with open_log(asked.report) as stored:
+            return stored.read().decode('ascii', 'replace').splitlines()
     options = ['--pages', str(asked.pages)] + (['--refuse', asked.refuse] if asked.refuse else [])
-    with open(asked.log, 'rb') as log:
+    with open_log(asked.log) as log:
         try:
             done = subprocess.run([PROGRAM, 'serial', '--calls', *options], stdin=log, stdout=subprocess.PIPE, text=True,
                                   check=False)
@@ -66,7 +73,7 @@ def heap_of(asked, policy=None):
 
 
 def ops_in(path):
-    with open(path, 'rb') as log:
+    with open_log(path) as log:
         return ops_of(read_logs(log.read()))
 
 
