@@ -15,6 +15,7 @@ use Rattle.ng_terms.specs.declared.plan.Op.TheVariants.{Make}
 use Rattle.ng_terms.specs.declared.plan.Origin.TheVariants.{Own, Claim}
 use Rattle.ng_terms.specs.declared.plan.Plan.{Plan}
 use Rattle.ng_terms.specs.declared.reply.Reply.{Reply}
+use Rattle.ng_terms.specs.Heap.{large}
 use Rattle.ng_terms.specs.Calls.{FitsOp, calls_of, handed_as, origin_of, size_of}
 use Rattle.ng_replay.specs.Books.{hand_at}
 use Rattle.ng_replay.specs.Room.{HaveRoom}
