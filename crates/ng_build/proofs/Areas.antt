@@ -12,8 +12,8 @@ use Rattle.ng_view.specs.Notes.{IsClearedRun, NotesArea, NotesRun, plain_run}
 use Rattle.ng_view.specs.Stores.{Stores}
 use Rattle.ng_rule.proofs.lock.Knowing.{off_else, sees-built}
 use Rattle.ng_build.specs.Areas.{AreMetasZero, with_area, without_run}
-use Rattle.ng_build.specs.Cells.{AreZero, BuildsAll, IsIdleRun, KeepsOutside, OnlyCells, knowing}
-use Rattle.ng_build.proofs.Cells.{builds_run, idle_run_only, only_both, only_built, sees_else}
+use Rattle.ng_build.specs.Cells.{AreZero, BuildsAll, IsIdleRun, KeepsOutside, OnlyCells, ReadsWithin, knowing}
+use Rattle.ng_build.proofs.Cells.{builds_run, idle_run_only, only_both, only_built, reads_then, sees_else}
 
 -- ---- a run goes
 module _ (v u : View) (base pages : ℕ) (idle : IsIdleRun v base pages) where
@@ -34,6 +34,9 @@ module _ (v u : View) (base pages : ℕ) (idle : IsIdleRun v base pages) where
           told.view ∙ ap (λ x. read (run_left x r) 0 told.found) only.view in
           subst (OnlyCells (without_run v base)) (sym e)
           (record { view = refl; came = only.came ++ (0, told.found) ∷ []; readings = ap (λ rs. rs ++ (0, told.found) ∷ []) only.readings ∙ append_assoc v.readings only.came ((0, told.found) ∷ []) })
+
+      pub gone_reads : ReadsWithin v u base (base + 4 * (1024 * pages)) → ReadsWithin v w base (base + 4096 * pages)
+      gone_reads reads = reads_then v u w base (base + 4 * (1024 * pages)) (base + 4096 * pages) 0 told.found (omega arith) reads (ap (λ (x : View). x.readings) told.view) (inl refl)
 
       pub gone_kept : KeepsOutside v u base (base + 4 * (1024 * pages)) → KeepsOutside v w base (base + 4096 * pages)
       gone_kept kept b x out s = subst (λ (y : View). Sees y b x) (sym told.view)

@@ -12,7 +12,7 @@ use Rattle.ng_view.specs.Loads.{Loads}
 use Rattle.ng_view.specs.Notes.{plain_run}
 use Rattle.ng_view.specs.Stores.{Stores}
 use Rattle.ng_rule.proofs.lock.Knowing.{sees-built, sees-built_else}
-use Rattle.ng_build.specs.Cells.{AreZero, BuildsAll, IsIdleMeta, IsIdleRun, KeepsOutside, OnlyCells, knowing}
+use Rattle.ng_build.specs.Cells.{AreZero, BuildsAll, IsIdleMeta, IsIdleRun, KeepsOutside, OnlyCells, ReadsWithin, knowing}
 
 -- ---- views that differ in known cells and readings
 pub only_none : (v : View) → OnlyCells v v
@@ -55,19 +55,46 @@ builds_meta v meta a whole idle al low high = (al, inr (record { meta = meta; wh
 pub builds_run : (v : View) (base pages a : ℕ) → IsIdleRun v base pages → a % 4 ≡ 0 → base ≤ a → a < base + 4096 * pages → Builds v a
 builds_run v base pages a idle al low high = (al, inl (record { run = plain_run base pages; noted = idle.noted; plain = refl; inside = (low, high); free = idle.empty }))
 
+-- ---- words are read in a range
+
+abbrev IsWithin : ℕ → ℕ → List (ℕ × ℕ) → Type 0
+IsWithin from to words = (word : ℕ × ℕ) → Among {A = ℕ × ℕ} word words → (word.0 ≡ 0) ⊎ ((from ≤ word.0) × (word.0 < to))
+
+-- also in a greater one
+pub within_more : (from to top : ℕ) (words : List (ℕ × ℕ)) → to ≤ top → IsWithin from to words → IsWithin from top words
+within_more from to top words less known word there = ⊎_elim
+    (λ (none : word.0 ≡ 0). inl none)
+    (λ (range : (from ≤ word.0) × (word.0 < to)). inr (range.0, omega (arith, range.1)))
+    (known word there)
+
+-- and one word more is
+pub within_then : (from to : ℕ) (words : List (ℕ × ℕ)) (a x : ℕ) → IsWithin from to words → (a ≡ 0) ⊎ ((from ≤ a) × (a < to)) → IsWithin from to (words ++ (a, x) ∷ [])
+within_then from to [] a x known last word (inl e) = subst (λ n. (n ≡ 0) ⊎ ((from ≤ n) × (n < to))) (sym (ap (λ (p : ℕ × ℕ). p.0) e)) last
+within_then from to [] a x known last word (inr there) = elim there [ ]
+within_then from to (y ∷ words) a x known last word (inl e) = known word (inl e)
+within_then from to (y ∷ words) a x known last word (inr there) = within_then from to words a x (λ other s. known other (inr s)) last word there
+
+pub reads_then : (v w u : View) (from to top a x : ℕ) → to ≤ top → ReadsWithin v w from to → u.readings ≡ w.readings ++ (a, x) ∷ [] → (a ≡ 0) ⊎ ((from ≤ a) × (a < top)) → ReadsWithin v u from top
+reads_then v w u from to top a x less reads more last = record {
+  words = reads.words ++ (a, x) ∷ [];
+  readings = more ∙ ap (λ rs. rs ++ (a, x) ∷ []) reads.readings ∙ append_assoc v.readings reads.words ((a, x) ∷ []);
+  within = within_then from top reads.words a x (within_more from to top reads.words less reads.within) last;
+}
+
 -- ---- cells are cleared one by one
 pub record Clears (v : View) (from to : ℕ) (w : View) : Type 0 where
   pub view : OnlyCells v w
   pub zero : AreZero w from to
   pub kept : KeepsOutside v w from to
+  pub reads : ReadsWithin v w from to
 
 pub clears_none : (v : View) (from : ℕ) → Clears v from (from + 4 * 0) v
-clears_none v from = record { view = only_none v; zero = λ b al low high. absurd (omega arith); kept = λ b x out s. s }
+clears_none v from = record { view = only_none v; zero = λ b al low high. absurd (omega arith); kept = λ b x out s. s; reads = record { words = []; readings = sym (append-nil v.readings); within = λ word there. elim there [ ] } }
 
 -- one more cell is known to be 0, and of the others what was known still is
-one_more : (v w u : View) (from k : ℕ) → from % 4 ≡ 0 → Clears v from (from + 4 * k) w → OnlyCells w u → Sees u (from + 4 * k) 0 → ((b x : ℕ) → b ≢ from + 4 * k → Sees w b x → Sees u b x)
+one_more : (v w u : View) (from k x : ℕ) → from % 4 ≡ 0 → Clears v from (from + 4 * k) w → OnlyCells w u → u.readings ≡ w.readings ++ (from + 4 * k, x) ∷ [] → Sees u (from + 4 * k) 0 → ((b x : ℕ) → b ≢ from + 4 * k → Sees w b x → Sees u b x)
     → Clears v from (from + 4 * (k + 1)) u
-one_more v w u from k whole c only here others = record {
+one_more v w u from k x whole c only more here others = record {
   view = only_both v w u c.view only;
   zero = λ b al low high. ⊎_elim
       (λ (e : b ≡ from + 4 * k). subst (λ n. Sees u n 0) (sym e) here)
@@ -77,6 +104,7 @@ one_more v w u from k whole c only here others = record {
       (λ (l : b < from). others b x (λ q. omega arith) (c.kept b x (inl l) s))
       (λ (l : from + 4 * (k + 1) ≤ b). others b x (λ q. omega arith) (c.kept b x (inr (omega arith)) s))
       out;
+  reads = reads_then v w u from (from + 4 * k) (from + 4 * (k + 1)) (from + 4 * k) x (omega arith) c.reads more (inr (omega arith, omega arith));
 }
 
 module _ (v w : View) (from cells k : ℕ) (whole : from % 4 ≡ 0) (all : BuildsAll v from (from + 4 * cells)) (c : Clears v from (from + 4 * k) w) (less : k < cells) where
@@ -98,13 +126,13 @@ module _ (v w : View) (from cells k : ℕ) (whole : from % 4 ≡ 0) (all : Build
 
     -- the cell was 0
     pub clears_load : x ≡ 0 → Clears v from (from + 4 * (k + 1)) u
-    clears_load none = one_more v w u from k whole c only_loaded (subst (λ (z : View). Sees z (from + 4 * k) 0) (sym loaded) (inl (ap (λ (y : ℕ). (from + 4 * k, y)) (sym none)))) (λ b y ne. still b y)
+    clears_load none = one_more v w u from k x whole c only_loaded (ap (λ (z : View). z.readings) loaded) (subst (λ (z : View). Sees z (from + 4 * k) 0) (sym loaded) (inl (ap (λ (y : ℕ). (from + 4 * k, y)) (sym none)))) (λ b y ne. still b y)
 
     -- it wasn't
     pub clears_store : (t : View) → Stores u (from + 4 * k) 0 t → Clears v from (from + 4 * (k + 1)) t
     clears_store t told =
         let e = told.page builds_loaded in
-        one_more v w t from k whole c (only_both w u t only_loaded (only_built u t (from + 4 * k) 0 e)) (sees-built u t (from + 4 * k) 0 e)
+        one_more v w t from k x whole c (only_both w u t only_loaded (only_built u t (from + 4 * k) 0 e)) (ap (λ (z : View). z.readings) e ∙ ap (λ (z : View). z.readings) loaded) (sees-built u t (from + 4 * k) 0 e)
         (λ b y ne s. sees-built_else u t (from + 4 * k) 0 b y e ne (still b y s))
 
 -- ---- what stays with other cells

@@ -16,6 +16,12 @@ pub record OnlyCells (v w : View) : Type 0 where
   pub came : List (ℕ × ℕ)
   pub readings : w.readings ≡ v.readings ++ came
 
+-- each word that was read since is word 0, or stands at an address of this range
+pub record ReadsWithin (v w : View) (from to : ℕ) : Type 0 where
+  pub words : List (ℕ × ℕ)
+  pub readings : w.readings ≡ v.readings ++ words
+  pub within : (word : ℕ × ℕ) → Among {A = ℕ × ℕ} word words → (word.0 ≡ 0) ⊎ ((from ≤ word.0) × (word.0 < to))
+
 -- what v knows of a cell outside these addresses, w knows too
 abbrev pub KeepsOutside : View → View → ℕ → ℕ → Type 0
 KeepsOutside v w from to = (b x : ℕ) → (b < from) ⊎ (to ≤ b) → Sees v b x → Sees w b x

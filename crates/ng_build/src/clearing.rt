@@ -2,7 +2,7 @@
 ghost use Rattle.std.specs.Prelude.{◌≡◌, ◌+◌, ◌*◌, ◌%◌, ◌≤◌};
 ghost use Rattle.ng_meta.specs.Place.{IsMetaPlace};
 ghost use Rattle.ng_build.specs.Areas.{without_run};
-ghost use Rattle.ng_build.specs.Cells.{AreZero, BuildsAll, IsIdleMeta, IsIdleRun, KeepsOutside, OnlyCells};
+ghost use Rattle.ng_build.specs.Cells.{AreZero, BuildsAll, IsIdleMeta, IsIdleRun, KeepsOutside, OnlyCells, ReadsWithin};
 
 use ng_space::{LockSeat, Name, Space};
 
@@ -20,6 +20,7 @@ pub fn clear_cells<N: Name>(space: &Space<N>, seat: &mut LockSeat<N>, from: u64,
     ensures view { OnlyCells seat.old seat.new }
     ensures zero { AreZero seat.new from (from + 4 * cells) }
     ensures kept { KeepsOutside seat.old seat.new from (from + 4 * cells) }
+    ensures reads { ReadsWithin seat.old seat.new from (from + 4 * cells) }
 {
     for k in 0..cells {
         let addr = from + 4 * k;
@@ -36,6 +37,7 @@ pub fn clear_meta<N: Name>(space: &Space<N>, seat: &mut LockSeat<N>, meta: u64)
     ensures view { OnlyCells seat.old seat.new }
     ensures zero { AreZero seat.new meta (meta + 40) }
     ensures kept { KeepsOutside seat.old seat.new meta (meta + 40) }
+    ensures reads { ReadsWithin seat.old seat.new meta (meta + 40) }
 {
     clear_cells(space, seat, meta, META_CELLS);
 }
@@ -47,6 +49,7 @@ pub fn drop_run<N: Name>(space: &Space<N>, seat: &mut LockSeat<N>, base: u64, pa
     requires idle { IsIdleRun seat.old base pages }
     ensures view { OnlyCells (without_run seat.old base) seat.new }
     ensures kept { KeepsOutside seat.old seat.new base (base + 4096 * pages) }
+    ensures reads { ReadsWithin seat.old seat.new base (base + 4096 * pages) }
 {
     clear_cells(space, seat, base, PAGE_CELLS * pages);
     space.note_run(seat, base, pages, false);

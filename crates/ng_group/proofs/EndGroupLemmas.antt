@@ -18,7 +18,7 @@ use Rattle.ng_view.specs.declared.view.Group.{Group}
 use Rattle.ng_view.specs.declared.view.Start.{Start}
 use Rattle.ng_view.specs.declared.view.View.{View}
 use Rattle.ng_build.specs.Areas.{without_run}
-use Rattle.ng_build.specs.Cells.{IsIdleRun, KeepsOutside, OnlyCells, knowing}
+use Rattle.ng_build.specs.Cells.{IsIdleRun, KeepsOutside, OnlyCells, ReadsWithin, knowing}
 use Rattle.ng_build.specs.Nestings.{HasHead, OnlySlot, recalling}
 use Rattle.ng_mask.specs.Fetches.{OfGroup}
 use Rattle.ng_ledger.specs.Metas.{IsBlankMeta, Keeps}
@@ -207,10 +207,10 @@ module _ {M P : Type 0} {start : Start} {span : M → Span} {runs : M → List m
 -- ---- how the group ended is told
 
 module _ {M P : Type 0} {old mid told t : State M P} (runs : M → List mapper.Run) (meta : ℕ) (found : LiveGroup) (same : t ≡ told) (leaves : LeavesAnyRing found.class meta old mid) (ended : EndsGroup meta mid told) where
-  pub ends_run : (w : View) (b : Bounces) (m' : M) → 0 < found.maplen → OnlyCells (without_run t.seat found.base) w → b ≡ stamped (stepped t.bounces) found.class
+  pub ends_run : (w : View) (b : Bounces) (m' : M) → 0 < found.maplen → OnlyCells (without_run t.seat found.base) w → ReadsWithin t.seat w found.base (found.base + 4096 * found.maplen) → b ≡ stamped (stepped t.bounces) found.class
       → mapper.RemovesRun (runs t.mapper) (runs m') (found.base, found.maplen) → ¬ Contains (runs m') (found.base, found.maplen)
       → Ends runs meta found None old (record t { seat = w; bounces = b; mapper = m' })
-  ends_run w b m' paged cells counted removes gone = record {
+  ends_run w b m' paged cells reads counted removes gone = record {
     unlisted = mid;
     retired = t;
     leaves = leaves;
@@ -219,6 +219,7 @@ module _ {M P : Type 0} {old mid told t : State M P} (runs : M → List mapper.R
       paged = paged;
       state = ap (λ (x : Bounces). record t { seat = w; bounces = x; mapper = m' }) counted;
       cells = cells;
+      reads = reads;
       removes = removes;
       gone = gone;
     };

@@ -25,7 +25,7 @@ use Rattle.ng_view.specs.declared.view.Start.{Start}
 use Rattle.ng_view.specs.declared.view.View.{View}
 use Rattle.ng_ledger.specs.Standing.{KeepsHand, Ledger}
 use Rattle.ng_group.specs.Hands.{IsApart}
-use Rattle.ng_group.specs.Returning.{Around, HasReturned, Returns, ReturnsOfHand}
+use Rattle.ng_group.specs.Returning.{HasReturned, Returns, ReturnsOfHand}
 use Rattle.ng_group.specs.States.{IsResting, IsWorking, Resting, State, Working, ledger_of}
 use Rattle.ng_group.specs.Steps.{Came, GoesOn}
 use Rattle.ng_group.proofs.CallLemmas.{hand_still, works_still}
@@ -149,7 +149,7 @@ module _ (v w : View) (hand : Caller) (token : Token) (has : HasSlot hand token)
     held_view = ap (λ (hs : List Held). record v { held = hs }) (ap (λ (y : View). y.held) read_view) ∙ sym back_view
 
     pub returns_back : {M P : Type 0} (keeps : Spare → Bool → Type 0) (runs : M → List mapper.Run) (s after : State M P) (found : LiveGroup)
-        → s.seat ≡ v → OfGroup w token.meta (Describes found) → ReadsFields w token.meta x → (around : List Around) × Returns keeps runs (record s { seat = x }) token.meta token.index found around after
+        → s.seat ≡ v → OfGroup w token.meta (Describes found) → ReadsFields w token.meta x → Returns keeps runs (record s { seat = x }) token.meta token.index found after
         → ReturnsOfHand keeps runs s after token.meta token.index
     returns_back {M} {P} keeps runs s after found same describes fields returns =
         let slot = returned_back in record {
@@ -158,8 +158,7 @@ module _ (v w : View) (hand : Caller) (token : Token) (has : HasSlot hand token)
           slot = slot;
           describes = describes slot.group (subst (λ (y : View). Among slot.group y.desk.groups) reads.view slot.there) slot.of_meta;
           reads = subst (λ (y : View). ReadsFields (record y { held = x.held }) token.meta x) (sym same) (subst (λ (y : View). ReadsFields y token.meta x) (sym held_view) fields);
-          around = returns.0;
-          returns = returns.1;
+          returns = returns;
         }
 
 -- ---- the core rests again once the slot has been returned
@@ -209,12 +208,12 @@ module _ {M P : Type 0} {s now : State M P} (start : Start) (span : M → Span) 
           (goes_then s.seat x after.seat (goes_back s.seat w hand token has was_still view x reads slots) on)
 
       pub hand_returns : (gives : P → Spare → Bool → Type 0) (found : LiveGroup) → OfGroup w meta (Describes found) → ReadsFields w meta x
-          → (around : List Around) × Returns (gives s.rules) runs (record s { seat = x }) meta index found around after
+          → Returns (gives s.rules) runs (record s { seat = x }) meta index found after
           → ReturnsOfHand (gives now.rules) runs now after token.meta token.index
       hand_returns gives found describes fields returns =
           subst (λ (t : State M P). ReturnsOfHand (gives t.rules) runs t after token.meta token.index) same
           (returns_back s.seat w hand token has was_still view x reads slots (gives s.rules) runs s after found refl
           (subst (λ (m : ℕ). OfGroup w m (Describes found)) of_meta describes)
           (subst (λ (m : ℕ). ReadsFields w m x) of_meta fields)
-          (subst (λ (m : ℕ). (around : List Around) × Returns (gives s.rules) runs (record s { seat = x }) m token.index found around after) of_meta
-          (subst (λ (i : ℕ). (around : List Around) × Returns (gives s.rules) runs (record s { seat = x }) meta i found around after) of_index returns)))
+          (subst (λ (m : ℕ). Returns (gives s.rules) runs (record s { seat = x }) m token.index found after) of_meta
+          (subst (λ (i : ℕ). Returns (gives s.rules) runs (record s { seat = x }) meta i found after) of_index returns)))

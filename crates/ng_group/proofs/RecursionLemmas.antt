@@ -21,7 +21,7 @@ use Rattle.ng_serve.specs.declared.group.LiveGroup.{LiveGroup}
 use Rattle.ng_group.specs.Building.{HasInHand}
 use Rattle.ng_group.specs.Returning as returning
 use Rattle.ng_group.specs.Ending.{Ends}
-use Rattle.ng_group.specs.Returning.{Around, HasReturned, HasWhole, IsAbove, Returns, TakesWhole, with_free}
+use Rattle.ng_group.specs.Returning.{HasReturned, HasWhole, IsAbove, Returns, ReturnsOutwards, TakesWhole, with_free}
 use Rattle.ng_group.specs.Serving.{OnlyRing, with_search}
 use Rattle.ng_group.specs.States.{IsWorking, State, Working, ledger_of}
 use Rattle.ng_group.specs.Steps.{GoesOn, HandsOver}
@@ -277,7 +277,7 @@ module _ {M P : Type 0} where
 
   -- the slot went back
   pub returns_back : (keeps : Spare → Bool → Type 0) (runs : M → List mapper.Run) (before after : State M P) (meta index : ℕ) (found : LiveGroup) (answer : Bool)
-      → answer ≡ false → TakesWhole keeps before meta index found answer after → (around : List Around) × Returns keeps runs before meta index found around after
+      → answer ≡ false → TakesWhole keeps before meta index found answer after → Returns keeps runs before meta index found after
   returns_back keeps runs before after meta index found answer is takes =
       ([], inl (subst (λ (b : Bool). TakesWhole keeps before meta index found b after) is takes))
 
@@ -292,16 +292,16 @@ module _ {M P : Type 0} where
 
     -- with its run
     pub returns_run : {s now : State M P} (put' : Stock) → s ≡ now → put' ≡ stocked s.stock meta → Ends runs meta found None taken now
-        → (around : List Around) × Returns (gives before.rules) runs before meta index found around (record s { stock = put' })
+        → Returns (gives before.rules) runs before meta index found (record s { stock = put' })
     returns_run {s} {now} put' same puts ends =
         ([], inr (now, record { taken = taken; takes = taken_whole; ends = ends }, freed_then s now put' same puts))
 
     -- or in the slot of another, which was returned
     pub returns_slot : {e ended s back : State M P} (put' : Stock) (p i : ℕ) (carrying : LiveGroup) (looked : View) → e ≡ ended → Ends runs meta found (Some (p, i)) taken ended → ended.rules ≡ before.rules
         → ReadsFields e.seat p looked → Reads e.seat looked → OfGroup e.seat p (Describes carrying)
-        → (around : List Around) × Returns (gives e.rules) runs (record e { seat = looked }) p i carrying around back
+        → Returns (gives e.rules) runs (record e { seat = looked }) p i carrying back
         → s ≡ back → put' ≡ stocked s.stock meta
-        → (around : List Around) × Returns (gives before.rules) runs before meta index found around (record s { stock = put' })
+        → Returns (gives before.rules) runs before meta index found (record s { stock = put' })
     returns_slot {e} {ended} {s} {back} put' p i carrying looked named ends ruled fields reads describes (more, inner) same puts = (
       record { meta = p; index = i; found = carrying } ∷ more,
       (
@@ -310,8 +310,8 @@ module _ {M P : Type 0} where
         back,
         record { taken = taken; takes = taken_whole; ends = ends },
         (subst (λ (x : State M P). ReadsFields x.seat p looked) named fields, describes_read e.seat looked p carrying reads describes),
-        subst (λ r. Returns (gives r) runs (record ended { seat = looked }) p i carrying more back) ruled
-            (subst (λ (x : State M P). Returns (gives x.rules) runs (record x { seat = looked }) p i carrying more back) named inner),
+        subst (λ r. ReturnsOutwards (gives r) runs (record ended { seat = looked }) p i carrying more back) ruled
+            (subst (λ (x : State M P). ReturnsOutwards (gives x.rules) runs (record x { seat = looked }) p i carrying more back) named inner),
         freed_then s back put' same puts,
       ),
     )

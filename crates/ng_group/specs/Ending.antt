@@ -1,5 +1,5 @@
 -- Groups that end.
-use Rattle.std.specs.Prelude.{◌≡◌, ◌≢◌, ◌⊎◌, ℕ, ◌+◌, ◌<◌, Contains, IfNone, IfSome, List, Option, Some, false, slice_get}
+use Rattle.std.specs.Prelude.{◌≡◌, ◌≢◌, ◌⊎◌, ℕ, ◌+◌, ◌*◌, ◌<◌, Contains, IfNone, IfSome, List, Option, Some, false, slice_get}
 use Rattle.ng_lists.specs.Rings.{IsListed, ring_of}
 use Rattle.ng_mapper.specs.Runs as mapper
 use Rattle.ng_policy.specs.Bounce.{stamped, stepped}
@@ -9,7 +9,7 @@ use Rattle.ng_view.specs.Steps.{read}
 use Rattle.ng_view.specs.declared.view.View.{View}
 use Rattle.ng_view.specs.Groups.{Retires}
 use Rattle.ng_build.specs.Areas.{without_run}
-use Rattle.ng_build.specs.Cells.{AreZero, KeepsOutside, OnlyCells}
+use Rattle.ng_build.specs.Cells.{AreZero, KeepsOutside, OnlyCells, ReadsWithin}
 use Rattle.ng_build.specs.Nestings.{OnlySlot}
 use Rattle.ng_ledger.specs.Rings.{IsIn, left}
 use Rattle.ng_ledger.specs.Usage.{AreUsed}
@@ -43,7 +43,8 @@ pub record LeavesRing {M P : Type 0} (class meta : ℕ) (before after : State M 
 abbrev pub LeavesAnyRing : {M P : Type 0} → ℕ → ℕ → State M P → State M P → Type 0
 LeavesAnyRing class meta before after = ((¬ IsListed before.rings meta) × (after ≡ before)) ⊎ LeavesRing class meta before after
 
--- the group of that meta is no more, and the cells of its meta are known to be 0: only the seat and the usage have changed
+-- the group of that meta is no more, and the cells of its meta were read and are known to be 0: only the seat and the usage
+-- have changed
 pub record EndsGroup {M P : Type 0} (meta : ℕ) (before after : State M P) : Type 0 where
   pub state : after ≡ record before { seat = after.seat; usage = after.usage }
   pub gone : View
@@ -51,10 +52,11 @@ pub record EndsGroup {M P : Type 0} (meta : ℕ) (before after : State M P) : Ty
   pub cells : OnlyCells gone after.seat
   pub zero : AreZero after.seat meta (meta + 40)
   pub kept : KeepsOutside gone after.seat meta (meta + 40)
+  pub reads : ReadsWithin gone after.seat meta (meta + 40)
   pub used : AreUsed (groups_but meta before.seat.desk.groups) after.usage
 
--- the run of a group that ended, and no other, went: the class was stamped, and nothing else changed but what is known of
--- cells
+-- the run of a group that ended, and no other, went, of which the cells were read: the class was stamped, and nothing else
+-- changed but what is known of cells
 pub record DropsRun {M P : Type 0} (runs : M → List mapper.Run) (found : LiveGroup) (before after : State M P) : Type 0 where
   pub paged : 0 < found.maplen
   pub state : after ≡ record before {
@@ -63,6 +65,7 @@ pub record DropsRun {M P : Type 0} (runs : M → List mapper.Run) (found : LiveG
     mapper = after.mapper;
   }
   pub cells : OnlyCells (without_run before.seat found.base) after.seat
+  pub reads : ReadsWithin before.seat after.seat found.base (found.base + 4096 * found.maplen)
   pub removes : mapper.RemovesRun (runs before.mapper) (runs after.mapper) (found.base, found.maplen)
   pub gone : ¬ Contains (runs after.mapper) (found.base, found.maplen)
 
@@ -75,7 +78,8 @@ pub record FreesSlot {M P : Type 0} (meta : ℕ) (found : LiveGroup) (slot : ℕ
 
 -- a group whose slots are all in the seat left its ring and is no more; then its run went, or the slot that carried it is
 -- the answer
-pub record Ends {M P : Type 0} (runs : M → List mapper.Run) (meta : ℕ) (found : LiveGroup) (answer : Option (ℕ × ℕ)) (before after : State M P) : Type 0 where
+pub record Ends {M P : Type 0} (runs : M → List mapper.Run) (meta : ℕ) (found : LiveGroup)
+    (answer : Option (ℕ × ℕ)) (before after : State M P) : Type 0 where
   pub unlisted : State M P
   pub retired : State M P
   pub leaves : LeavesAnyRing found.class meta before unlisted

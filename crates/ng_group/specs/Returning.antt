@@ -104,7 +104,8 @@ pub record GoesBack {M P : Type 0} (class meta index : ℕ) (before after : Stat
 -- the slot of that index was returned to a live group whose numbers are found. Its masks were read; where they and the
 -- slot fill the group, and it may go, both were captured, and the answer is whether the captured masks and the slot fill
 -- it. Else the slot went back. Nothing else changed
-pub record TakesWhole {M P : Type 0} (keeps : Spare → Bool → Type 0) (before : State M P) (meta index : ℕ) (found : LiveGroup) (answer : Bool) (after : State M P) : Type 0 where
+pub record TakesWhole {M P : Type 0} (keeps : Spare → Bool → Type 0) (before : State M P)
+    (meta index : ℕ) (found : LiveGroup) (answer : Bool) (after : State M P) : Type 0 where
   pub freed : ℕ
   pub avail : ℕ
   pub between : View
@@ -115,7 +116,8 @@ pub record TakesWhole {M P : Type 0} (keeps : Spare → Bool → Type 0) (before
       × (answer ≡ false) × GoesBack found.class meta index (record before { seat = between }) after)
 
 -- all slots of the group were taken, and it ended
-pub record TakesAndEnds {M P : Type 0} (keeps : Spare → Bool → Type 0) (runs : M → List mapper.Run) (before : State M P) (meta index : ℕ) (found : LiveGroup) (answer : Option (ℕ × ℕ)) (after : State M P) : Type 0 where
+pub record TakesAndEnds {M P : Type 0} (keeps : Spare → Bool → Type 0) (runs : M → List mapper.Run) (before : State M P)
+    (meta index : ℕ) (found : LiveGroup) (answer : Option (ℕ × ℕ)) (after : State M P) : Type 0 where
   pub taken : State M P
   pub takes : TakesWhole keeps before meta index found true taken
   pub ends : Ends runs meta found answer taken after
@@ -137,24 +139,30 @@ ReadsAround v around w = ReadsFields v around.meta w × OfGroup w around.meta (D
 -- a slot of that index was returned to a live group whose numbers are found. It went back, or the group ended, and its run
 -- with it, and its meta came last among the free ones. Or the group ended, and the slot that carried it was returned in the
 -- same way to the group around, before the meta came there; and so on outwards. No other group or run went
-abbrev pub Returns : {M P : Type 0} → (Spare → Bool → Type 0) → (M → List mapper.Run) → State M P → ℕ → ℕ → LiveGroup → List Around → State M P → Type 0
-Returns {M} {P} keeps runs before meta index found [] after = TakesWhole keeps before meta index found false after
+abbrev pub ReturnsOutwards : {M P : Type 0} → (Spare → Bool → Type 0) → (M → List mapper.Run)
+    → State M P → ℕ → ℕ → LiveGroup → List Around → State M P → Type 0
+ReturnsOutwards {M} {P} keeps runs before meta index found [] after = TakesWhole keeps before meta index found false after
     ⊎ ((ended : State M P) × TakesAndEnds keeps runs before meta index found None ended × (after ≡ with_free ended meta))
-Returns {M} {P} keeps runs before meta index found (around ∷ more) after = (ended : State M P) × (looked : View) × (back : State M P)
+ReturnsOutwards {M} {P} keeps runs before meta index found (around ∷ more) after =
+    (ended : State M P) × (looked : View) × (back : State M P)
     × TakesAndEnds keeps runs before meta index found (Some (around.meta, around.index)) ended
     × ReadsAround ended.seat around looked
-    × Returns keeps runs (record ended { seat = looked }) around.meta around.index around.found more back
+    × ReturnsOutwards keeps runs (record ended { seat = looked }) around.meta around.index around.found more back
     × (after ≡ with_free back meta)
 
+-- through so many groups, or none
+abbrev pub Returns : {M P : Type 0} → (Spare → Bool → Type 0) → (M → List mapper.Run) → State M P → ℕ → ℕ → LiveGroup → State M P → Type 0
+Returns keeps runs before meta index found after = (around : List Around) × ReturnsOutwards keeps runs before meta index found around after
+
 -- the same of a slot that a hand had: it came into the seat, and the words of its group's meta were read first
-pub record ReturnsOfHand {M P : Type 0} (keeps : Spare → Bool → Type 0) (runs : M → List mapper.Run) (before after : State M P) (meta index : ℕ) : Type 0 where
+pub record ReturnsOfHand {M P : Type 0} (keeps : Spare → Bool → Type 0) (runs : M → List mapper.Run)
+    (before after : State M P) (meta index : ℕ) : Type 0 where
   pub found : LiveGroup
   pub looked : View
   pub slot : HasReturned looked meta index
   pub describes : Describes found slot.group
   pub reads : ReadsFields (record before.seat { held = looked.held }) meta looked
-  pub around : List Around
-  pub returns : Returns keeps runs (record before { seat = looked }) meta index found around after
+  pub returns : Returns keeps runs (record before { seat = looked }) meta index found after
 
 -- the meta of a group that ended has come in hand, with its cells known to be 0; the others in hand are the same
 pub record ComesInHand (meta : ℕ) (before after : Ledger) : Type 0 where

@@ -1,5 +1,5 @@
 // Slots returned under the lock.
-ghost use Rattle.std.specs.Prelude.{◌≡◌, ◌+◌, ◌<◌, ◌≤◌, ◌↔◌, ◌⊎◌, [], IsTrue, List, true, false};
+ghost use Rattle.std.specs.Prelude.{◌≡◌, ◌+◌, ◌<◌, ◌≤◌, ◌↔◌, ◌⊎◌, [], IsTrue, true, false};
 ghost use Rattle.ng_class.specs.Mask.{FillsGroup};
 ghost use Rattle.ng_meta.specs.Place.{IsMetaPlace};
 ghost use Rattle.ng_policy.specs.Ask.{SpareInRange};
@@ -13,7 +13,7 @@ ghost use Rattle.ng_ledger.specs.Groups.{IsOfClass};
 ghost use Rattle.ng_ledger.specs.Standing.{KeepsHand};
 ghost use Rattle.ng_serve.specs.Takes.{IsServed};
 ghost use Rattle.ng_group.specs.Filling.{AreSlots, LooksAt, Searches};
-ghost use Rattle.ng_group.specs.Returning.{Around, CapturesAll, Enlists, GoesBack, HasReturned, HasWhole, IsKept, IsSpare, MayGo, Returns, TakesWhole};
+ghost use Rattle.ng_group.specs.Returning.{CapturesAll, Enlists, GoesBack, HasReturned, HasWhole, IsKept, IsSpare, MayGo, Returns, TakesWhole};
 ghost use Rattle.ng_group.specs.Serving.{OnlyRing};
 ghost use Rattle.ng_group.specs.States.{Working, ledger_of};
 ghost use Rattle.ng_group.specs.Steps.{GoesOn, IsCalm};
@@ -39,7 +39,7 @@ impl<N: Name, M: Mapper, P: Rules> Works<N, M, P> {
         ensures hand { KeepsHand (ledger_of self.old) (ledger_of self.new) }
         ensures calm { IsCalm self.old.seat self.new.seat (M.refused self.old.mapper) (M.refused self.new.mapper) }
         ensures idle { self.new.seat.held ≡ [] }
-        ensures returns { (around : List Around) × Returns (P.keep_gives self.old.rules) M.runs self.old meta index group.now around self.new }
+        ensures returns { Returns (P.keep_gives self.old.rules) M.runs self.old meta index group.now self.new }
         ensures rules { self.new.rules ≡ self.old.rules }
     {
         if !self.take_whole(space, meta, index, group) {

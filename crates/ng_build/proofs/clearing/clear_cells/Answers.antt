@@ -1,5 +1,5 @@
 use Rattle.std.proofs.Common.{◌+◌, ◌*◌, ◌<◌, ◌≤◌, inl, inr, ⊎_elim, sym, subst, arith}
-use Rattle.ng_build.proofs.Cells.{Clears, builds_loaded, clears_load, clears_none, clears_store}
+use Rattle.ng_build.proofs.Cells.{Clears, builds_loaded, clears_load, clears_none, clears_store, within_more}
 use Rattle.ng_build.proofs.clearing.clear_cells.Goals.{then-load_seat-ne0, else-load_seat-ne0}
 use Rattle.ng_build.proofs.clearing.clear_cells.Goals as goal
 
@@ -18,3 +18,11 @@ loop-k-preserved g c = elim c.if-load_seat-ne0.branch [
 pub returns-clause-kept : goal.returns-clause-kept
 returns-clause-kept g c = λ b x out.
     c.loop-k.invariant.kept b x (⊎_elim (λ (l : b < c.args.from). inl l) (λ (l : c.args.from + 4 * c.args.cells ≤ b). inr (omega (arith, c.loop-k-test.false, c.loop-k.auto.k-end))) out)
+
+pub returns-clause-reads : goal.returns-clause-reads
+returns-clause-reads g c =
+    let reads = c.loop-k.invariant.reads in record {
+      words = reads.words;
+      readings = reads.readings;
+      within = within_more c.args.from (c.args.from + 4 * c.loop-k.k) (c.args.from + 4 * c.args.cells) reads.words (omega (arith, c.loop-k.auto.k-end)) reads.within;
+    }

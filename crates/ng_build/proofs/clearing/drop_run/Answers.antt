@@ -1,4 +1,4 @@
-use Rattle.ng_build.proofs.Areas.{builds_all, cleared, gone_kept, gone_view}
+use Rattle.ng_build.proofs.Areas.{builds_all, cleared, gone_kept, gone_reads, gone_view}
 use Rattle.ng_build.proofs.clearing.drop_run.Goals as goal
 
 pub clear_cells-requires-clause-builds : goal.clear_cells-requires-clause-builds
@@ -12,3 +12,6 @@ returns-clause-view g c = gone_view _ _ c.args.base c.args.pages c.requires.idle
 
 pub returns-clause-kept : goal.returns-clause-kept
 returns-clause-kept g c = gone_kept _ _ c.args.base c.args.pages c.requires.idle c.clear_cells.ensures.view c.clear_cells.ensures.zero _ c.note_run.ensures c.clear_cells.ensures.kept
+
+pub returns-clause-reads : goal.returns-clause-reads
+returns-clause-reads g c = gone_reads _ _ c.args.base c.args.pages c.requires.idle c.clear_cells.ensures.view c.clear_cells.ensures.zero _ c.note_run.ensures c.clear_cells.ensures.reads

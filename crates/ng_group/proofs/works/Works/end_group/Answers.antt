@@ -96,7 +96,7 @@ returns-clause-above g c =
 pub returns-then-group-gt0-clause-ends : goal.returns-then-group-gt0-clause-ends
 returns-then-group-gt0-clause-ends g c =
     let e = gone g.N.Name.facts.start g.M.Mapper.span g.M.Mapper.runs g.M.Mapper.refused c.args.meta c.args.group.now c.self.view_is c.leave_any_ring.ensures.only c.leave_any_ring.ensures.working c.leave_any_ring.ensures.whole c.leave_any_ring.ensures.left c.retire_group.ensures.ends c.requires.group in
-    ends_run g.M.Mapper.runs c.args.meta c.args.group.now c.self.view_is c.leave_any_ring.ensures.leaves c.retire_group.ensures.ends c.drop_run.new.seat c.stamp.new.self c.unmap.new.self c.if-group-gt0.true c.drop_run.ensures.view
+    ends_run g.M.Mapper.runs c.args.meta c.args.group.now c.self.view_is c.leave_any_ring.ensures.leaves c.retire_group.ensures.ends c.drop_run.new.seat c.stamp.new.self c.unmap.new.self c.if-group-gt0.true c.drop_run.ensures.view c.drop_run.ensures.reads
     (c.stamp.ensures ∙ ap (λ b. stamped b c.args.group.now.class) c.step.ensures) c.unmap.ensures.unmapped
     (run_unmapped e c.if-group-gt0.true (g.met.M.Mapper.laid e.mid.mapper) c.drop_run.new.seat c.drop_run.ensures.view c.unmap.new.self c.unmap.ensures.unmapped)
 

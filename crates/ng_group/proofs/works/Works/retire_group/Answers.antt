@@ -34,6 +34,7 @@ returns g c =
         cells = c.clear_meta.ensures.view;
         zero = c.clear_meta.ensures.zero;
         kept = c.clear_meta.ensures.kept;
+        reads = c.clear_meta.ensures.reads;
         used = subst (AreUsed (groups_but c.args.meta c.args.self.now.seat.desk.groups)) (sym usage) c.uncount.ensures.used;
       };
     }
