@@ -104,7 +104,7 @@ module _ (facts : Facts) (span : Span) (lock : View) (hands : List Caller) (live
 pub same_span : (facts : Facts) (lock : View) (span span' : Span) (before live : List mapper.Run) (counted refused : Refusals)
     → IsFreshMapper facts.start span before counted → IsHandedBack facts lock span' live refused → span' ≡ span
 same_span facts lock span span' before live counted refused fresh left =
-    let lower = left.lower ∙ sym fresh.lower in let upper = left.upper ∙ sym fresh.upper in let size = left.size ∙ sym fresh.size in cc
+    let lower = left.lower ∙ sym fresh.lower in let upper = left.upper ∙ sym fresh.upper in let size = left.size ∙ sym fresh.size in λ i. record { lower = lower i; upper = upper i; size = size i }
 
 -- ---- a run whose heap was closed
 module _ {X : Type 0} (span : X → Span) (runs : X → List mapper.Run) (refused : X → Refusals) (plan : Plan) (calls_shown : Bool) (facts : Facts)

@@ -1,5 +1,5 @@
 // The largest request of a plan.
-ghost use Rattle.std.specs.Prelude.{◌≡◌, ◌<◌, ◌≤◌};
+ghost use Rattle.std.specs.Prelude.{◌≡◌, ◌<◌, ◌≤◌, max};
 ghost use Rattle.mng.specs.Caps.{IsCapIn};
 ghost use Rattle.ng_replay.specs.Serving.{IsCapOf};
 ghost use Rattle.ng_terms.specs.Calls.{size_of};
@@ -14,7 +14,7 @@ pub fn cap_of(plan: &Plan) -> u64
 {
     let mut cap = 0;
     for ops in plan.logs.as_slice() {
-        cap = cap.max(cap_of_log(ops.as_slice()));
+        cap = larger(cap, cap_of_log(ops.as_slice()));
     }
     cap
 }
@@ -26,9 +26,16 @@ fn cap_of_log(ops: &[Op]) -> u64
 {
     let mut cap = 0;
     for op in ops {
-        cap = cap.max(asked_size(op));
+        cap = larger(cap, asked_size(op));
     }
     cap
+}
+
+/// The larger of two numbers.
+fn larger(cap: u64, size: u64) -> u64
+    ensures { result ≡ max cap size }
+{
+    cap.max(size)
 }
 
 /// The bytes that an op asks for, or 0 where they are too many.

@@ -8,6 +8,3 @@ close-image-requires-clause-all g c = all_opened _ c.args.fresh.blank.rooms _ (a
 
 pub close-image-requires-clause-parcels : goal.close-image-requires-clause-parcels
 close-image-requires-clause-parcels g c = even_opened c.args.fresh.blank.rooms _ c.in-Ok.ensures.hands
-
-pub open-heap-requires-clause-hands : goal.open-heap-requires-clause-hands
-open-heap-requires-clause-hands g c = ap length c.requires.rooms ∙ length-map _ _ ∙ c.requires.hands
