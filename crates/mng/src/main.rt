@@ -24,7 +24,7 @@ use ng_policy::Policy;
 use status::{Status, status_line};
 use std::alloc::{Alloc, Global};
 use std::env::{self, Env};
-use std::io::{self, Print};
+use std::io::{self, ErrorKind, Print};
 use std::process::ExitCode;
 use tool::tool;
 use words::setup;
@@ -41,9 +41,12 @@ fn main(rt: HostRuntime) -> ExitCode {
 /// Does what the words ask, over the standard streams.
 fn replayed(rt: &HostRuntime) -> Status {
     let alloc = rt.alloc();
-    let Ok(words) = words_of(rt) else {
-        return Status::Host;
+    let words = match words_of(rt) {
+        Ok(words) => words,
+        Err(status) => return status,
     };
+    // The words are read here for the mapper, which is made first, and once more by `tool`, which
+    // tells each status by what it is given.
     let setup = match setup(alloc, words.as_slice()) {
         Ok(setup) => setup,
         Err(status) => return status,
@@ -67,11 +70,18 @@ fn replayed(rt: &HostRuntime) -> Status {
     status
 }
 
-/// The words behind the program's name.
-fn words_of<R: Env + Alloc<A = Global>>(rt: &R) -> io::Result<Vec<String>> {
+/// The words behind the program's name. One that isn't UTF-8 is in no language.
+fn words_of<R: Env + Alloc<A = Global>>(rt: &R) -> Result<Vec<String>, Status> {
+    let all = match env::args(rt) {
+        Ok(all) => all,
+        Err(error) if error.kind() == ErrorKind::InvalidData => return Err(Status::Usage),
+        Err(_) => return Err(Status::Host),
+    };
     let mut words = Vec::new(rt.alloc());
-    for word in env::args(rt)?.skip(1) {
-        words.push(word)?;
+    for word in all.skip(1) {
+        if words.push(word).is_err() {
+            return Err(Status::Host);
+        }
     }
     Ok(words)
 }

@@ -1,5 +1,5 @@
-ghost use Rattle.std.specs.Prelude.{◌≡◌, ◌↔◌, ◌≤◌, ℕ, [], IfOk, IfErr, Err, length, vec_capacity};
-ghost use Rattle.ng_mtrace.specs.Reads.{MeetsFault};
+ghost use Rattle.std.specs.Prelude.{◌≡◌, ◌≢◌, ◌↔◌, ◌≤◌, ℕ, [], IfOk, IfErr, Err, length, vec_capacity};
+ghost use Rattle.ng_mtrace.specs.Reads.{MeetsFault, TakesFaultless};
 ghost use Rattle.ng_mtrace.specs.declared.log_fault.LogFault.TheVariants as fault;
 ghost use Rattle.ng_plan.specs.Sound.{IsSound};
 ghost use Rattle.ng_report.specs.Room.{room_of};
@@ -44,6 +44,10 @@ pub fn prepare<I: Source>(
     ensures usage { (result ≡ Err Status.Usage) ↔ ¬ InLanguage (texts_of words.now) }
     ensures unread { result ≡ Err Status.Usage → input.new ≡ input.old }
     ensures read { result ≡ Err Status.ReadFault → Rose (I.faults input.old) (I.faults input.new) }
+    ensures undecided { result ≡ Err Status.ReadFault
+        → TakesFaultless (I.left input.old) (I.left input.new) }
+    ensures unfailed { I.exact → result ≢ Err Status.ReadFault
+        → I.faults input.new ≡ I.faults input.old }
     ensures bad_line { (line : ℕ) → result ≡ Err (Status.BadLine line)
         → MeetsFault (fault.BadLine line) (I.left input.old) (I.left input.new) }
     ensures limit { (line : ℕ) → result ≡ Err (Status.Limit line)
@@ -86,6 +90,10 @@ fn planned_input<I: Source>(alloc: Global, input: &mut I) -> Result<Plan, Status
     ensures short { IfOk result (λ plan. op_count plan.logs ≤ 1000000) }
 
     ensures read { result ≡ Err Status.ReadFault → Rose (I.faults input.old) (I.faults input.new) }
+    ensures undecided { result ≡ Err Status.ReadFault
+        → TakesFaultless (I.left input.old) (I.left input.new) }
+    ensures unfailed { I.exact → result ≢ Err Status.ReadFault
+        → I.faults input.new ≡ I.faults input.old }
     ensures bad_line { (line : ℕ) → result ≡ Err (Status.BadLine line)
         → MeetsFault (fault.BadLine line) (I.left input.old) (I.left input.new) }
     ensures limit { (line : ℕ) → result ≡ Err (Status.Limit line)

@@ -1,4 +1,4 @@
-ghost use Rattle.std.specs.Prelude.{◌≡◌, ◌≤◌, ◌↔◌, IfOk, IfSome, IfNone, Err, [], unwrap_or};
+ghost use Rattle.std.specs.Prelude.{◌≡◌, ◌≢◌, ◌≤◌, ◌↔◌, IfOk, IfErr, IfSome, IfNone, Err, [], unwrap_or};
 ghost use Rattle.mng.specs.Words.{texts_of, value_of, number_of, AsksSpace, InLanguage, ShowsCalls};
 ghost use Rattle.mng.specs.Givens.{pages_of, list_of, number_added, calls_added, pages_added, refuse_added, pair_added, options_added, given_of};
 
@@ -17,6 +17,7 @@ pub fn setup(alloc: Global, words: &[String]) -> Result<Setup, Status>
     ensures least { IfOk result (λ setup. 16 ≤ setup.pages) }
     ensures most { IfOk result (λ setup. setup.pages ≤ 16384) }
     ensures usage { (result ≡ Err Status.Usage) ↔ ¬ InLanguage (texts_of words.now) }
+    ensures host { IfErr result (λ status. status ≢ Status.Usage → status ≡ Status.Host) }
 {
     let Some(given) = given(words) else {
         return Err(Status::Usage);

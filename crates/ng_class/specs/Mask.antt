@@ -16,20 +16,6 @@ all_bits_of last = 2 ^ (last + 1) - 1
 abbrev pub HasBitsTo : ℕ → ℕ → Type 0
 HasBitsTo mask last = (bit : ℕ) → (bit_at mask bit ≡ 1) ↔ (bit ≤ last)
 
--- new is old with this bit set
-pub record SetsBit (old new bit : ℕ) : Type 0 where
-  pub set : bit_at new bit ≡ 1
-  pub others : (other : ℕ) → other ≢ bit → bit_at new other ≡ bit_at old other
-
--- new is old with this bit clear
-pub record ClearsBit (old new bit : ℕ) : Type 0 where
-  pub clear : bit_at new bit ≡ 0
-  pub others : (other : ℕ) → other ≢ bit → bit_at new other ≡ bit_at old other
-
--- no slot has its bit set in both masks
-abbrev pub AreDisjoint : ℕ → ℕ → Type 0
-AreDisjoint mask other = (bit : ℕ) → bit_at mask bit + bit_at other bit ≤ 1
-
 -- each slot from 0 to last other than this one has its bit set in one of the masks
 abbrev pub FillsGroup : ℕ → ℕ → ℕ → ℕ → Type 0
 FillsGroup avail freed bit last =

@@ -1,6 +1,6 @@
 -- A slot with the group that it is in, as numbers.
-use Rattle.std.specs.Prelude.{◌≡◌, ◌≢◌, ◌+◌, ◌<◌, ◌≤◌, ℕ}
-use Rattle.ng_class.specs.Slot.{stride_of, room_of, start_at, end_at, IsOwnCell}
+use Rattle.std.specs.Prelude.{◌≡◌, ◌≢◌, ◌+◌, ℕ}
+use Rattle.ng_class.specs.Slot.{stride_of, start_at, end_at, IsOwnCell}
 
 -- the addresses of the group's meta and of the group, its class, last index and pages, and the slot
 pub record Place : Type 0 where
@@ -11,11 +11,6 @@ pub record Place : Type 0 where
   pub maplen : ℕ
   pub index : ℕ
 
--- a group has at most 32 slots, and the slot is one of them
-pub record IsPlace (place : Place) : Type 0 where
-  pub within : place.index ≤ place.last
-  pub few : place.last < 32
-
 -- the start of the group's slot 0: the group's own 16 bytes stand before it
 abbrev pub storage_of : Place → ℕ
 storage_of place = place.base + 16
@@ -23,10 +18,6 @@ storage_of place = place.base + 16
 -- the stride of the group's slots
 abbrev pub slot_stride : Place → ℕ
 slot_stride place = stride_of place.class place.last place.maplen
-
--- the bytes in which a block may begin in the slot
-abbrev pub slot_room : Place → ℕ
-slot_room place = room_of place.class place.last place.maplen
 
 -- the slot's first byte
 abbrev pub start_of : Place → ℕ

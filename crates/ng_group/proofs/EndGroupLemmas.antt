@@ -3,7 +3,7 @@ use Rattle.std.proofs.Common.{◌≡◌, ℕ, ◌+◌, ◌*◌, ◌%◌, ◌<◌
 use Rattle.std.proofs.lemmas.List.{append-nil}
 use Rattle.std.proofs.lemmas.Option.{same_Some}
 use Rattle.ng_meta.specs.Place.{IsMetaPlace}
-use Rattle.ng_mapper.specs.Mapping.{AreLaid, IsSpan, Span}
+use Rattle.ng_mapper.specs.Mapping.{AreLaid, IsSpan, NotesNone, Span}
 use Rattle.ng_mapper.specs.Runs as mapper
 use Rattle.ng_mapper.specs.declared.refusals.Refusals.{Refusals}
 use Rattle.ng_lists.specs.Rings.{IsListed}
@@ -143,10 +143,10 @@ module _ {M P : Type 0} {start : Start} {span : M → Span} {runs : M → List m
           kept_run : Keeps t.seat.desk.cells w.desk.cells e.whole.group.base (e.whole.group.base + 4096 * e.whole.group.maplen)
           kept_run = at_group (λ b p. Keeps t.seat.desk.cells w.desk.cells b (b + 4096 * p)) apart
 
-          pub run_state : span m' ≡ span t.mapper → refused m' ≡ refused t.mapper → IsWorking start (span m') (runs m') (refused m') (record (ledger_of t) { seat = w })
+          pub run_state : span m' ≡ span t.mapper → NotesNone (refused t.mapper) (refused m') → IsWorking start (span m') (runs m') (refused m') (record (ledger_of t) { seat = w })
           run_state constant calm = subst (λ (x : State M P). IsWorking start (span m') (runs m') (refused m') (record (ledger_of x) { seat = w })) (sym e.ends.state)
               (run_works start (span e.mid.mapper) (runs e.mid.mapper) (refused e.mid.mapper) (ledger_of e.mid) e.works meta e.whole has_pages laid (runs m') removed e.absent w t.seat.desk.cells w.desk.cells w.readings t.usage dropped_is kept kept_run
-              (span m') (refused m') (constant ∙ ap (λ (x : State M P). span x.mapper) e.ends.state) (calm ∙ ap (λ (x : State M P). refused x.mapper) e.ends.state) e.ends.used)
+              (span m') (refused m') (constant ∙ ap (λ (x : State M P). span x.mapper) e.ends.state) (subst (λ (r : Refusals). NotesNone r (refused m')) (ap (λ (x : State M P). refused x.mapper) e.ends.state) calm) e.ends.used)
 
           pub run_in_hand : IsSpan (span e.mid.mapper) → ComesInHand meta (ledger_of old) (record (ledger_of t) { seat = w })
           run_in_hand bounded = comes_then meta (ledger_of old) (ledger_of e.mid) (record (ledger_of t) { seat = w }) (only_hand found.class old e.mid e.only) (subst (λ (x : State M P). ComesInHand meta (ledger_of e.mid) (record (ledger_of x) { seat = w })) (sym e.ends.state)

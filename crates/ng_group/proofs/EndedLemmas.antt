@@ -2,7 +2,7 @@
 use Rattle.std.proofs.Common.{◌≡◌, ◌≢◌, ℕ, ◌+◌, ◌*◌, ◌<◌, List, Contains, refl, sym, ◌∙◌, subst, ⊎_elim, inl, inr, arith}
 use Rattle.ng_rule.proofs.geometry.Lists.{run_was}
 use Rattle.ng_meta.specs.Place.{IsMetaPlace}
-use Rattle.ng_mapper.specs.Mapping.{AreLaid, IsSpan, Span}
+use Rattle.ng_mapper.specs.Mapping.{AreLaid, IsSpan, NotesNone, Span}
 use Rattle.ng_mapper.specs.Runs as mapper
 use Rattle.ng_mapper.specs.declared.refusals.Refusals.{Refusals}
 use Rattle.ng_mapper.proofs.LaidLemmas.{lies-contained}
@@ -149,10 +149,10 @@ module _ (start : Start) (span : Span) (live : List mapper.Run) (refused : Refus
 
       module _ (absent : ¬ IsListed l.rings meta) (w : View) (between cells readings : List (ℕ × ℕ)) (usage : List ℕ) (is : w ≡ knowing (without_run (retired_nested l.seat meta) whole.group.base) cells readings)
           (kept : Keeps l.seat.desk.cells between meta (meta + 40)) (kept_run : Keeps between cells whole.group.base (whole.group.base + 4096 * whole.group.maplen)) where
-        pub run_works : (span' : Span) (refused' : Refusals) → span' ≡ span → refused' ≡ refused → AreUsed (groups_but meta l.seat.desk.groups) usage → IsWorking start span' live' refused' (record l { seat = w; usage = usage })
-        run_works span' refused' span_is refused_is used = subst (λ (x : View). IsWorking start span' live' refused' (record l { seat = x; usage = usage })) (sym is)
+        pub run_works : (span' : Span) (refused' : Refusals) → span' ≡ span → NotesNone refused refused' → AreUsed (groups_but meta l.seat.desk.groups) usage → IsWorking start span' live' refused' (record l { seat = w; usage = usage })
+        run_works span' refused' span_is calm used = subst (λ (x : View). IsWorking start span' live' refused' (record l { seat = x; usage = usage })) (sym is)
             (subst (λ (s : Span). IsWorking start s live' refused' (record l { seat = knowing (without_run (retired_nested l.seat meta) whole.group.base) cells readings; usage = usage })) (sym span_is)
-            (subst (λ (r : Refusals). IsWorking start span live' r (record l { seat = knowing (without_run (retired_nested l.seat meta) whole.group.base) cells readings; usage = usage })) (sym refused_is) (record {
+            (record {
               space = record { lower = works.space.lower; upper = works.space.upper; size = works.space.size; rings = works.space.rings; stock = works.space.stock; parents = works.space.parents };
               stands = record {
                 groups = drop_group start.pages l.seat.desk.groups meta works.stands.groups;
@@ -174,10 +174,10 @@ module _ (start : Start) (span : Span) (live : List mapper.Run) (refused : Refus
                 nested = nested_less l.seat.desk.groups l.seat.desk.layout.nests meta works.stands.nested;
                 carried = carried_less l.seat.desk.layout.nests l.parents meta works.stands.carried;
               };
-              counted = works.counted;
+              counted = omega (arith, works.counted, calm.later);
               leads = works.leads;
               bookless = works.bookless;
-            })))
+            }))
 
         -- the metas of areas are apart from the run
         run_clear : (m : ℕ) → InArea l.seat.desk.layout m → IsBlankMeta between m → IsBlankMeta cells m

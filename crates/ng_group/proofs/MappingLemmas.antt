@@ -28,7 +28,7 @@ use Rattle.ng_ledger.proofs.UsageLemmas.{published}
 use Rattle.ng_lists.specs.Rings.{IsListed}
 use Rattle.ng_view.specs.Notes.{IsClearedRun, NotesRun, excuse_of_call, plain_run}
 use Rattle.ng_rule.proofs.lock.Knowing.{sees-run_else}
-use Rattle.ng_mapper.specs.Mapping.{AreLaid, IsSpan, Span}
+use Rattle.ng_mapper.specs.Mapping.{AreLaid, IsSpan, NotesNone, Span}
 use Rattle.ng_mapper.specs.Runs as mapper
 use Rattle.ng_mapper.specs.declared.refusals.Refusals.{Refusals}
 use Rattle.ng_mapper.proofs.LaidLemmas.{lies-contained}
@@ -132,7 +132,7 @@ group_in_space start g is live place few paged whole inside = record {
 pub record ComesOnRun (start : Start) (span span' : Span) (live live' : List mapper.Run) (was now : Refusals) (l : Ledger) (g : Group) (class slots active : ℕ) (u w : View) : Type 0 where
   pub working : IsWorking start span live was l
   pub constant : span' ≡ span
-  pub calm : now ≡ was
+  pub calm : NotesNone was now
   pub bounded : IsSpan span'
   pub laid : AreLaid span' live'
   pub mapped : AreMapped u.desk.layout.runs live'
@@ -234,7 +234,7 @@ module _ {start : Start} {span span' : Span} {live live' : List mapper.Run} {was
           parents = old.space.parents;
         };
         stands = subst (λ (x : View). Stands start live' (after_run x)) (sym view) stands_shown;
-        counted = subst (λ (x : View). x.desk.refusals ≤ now.count) (sym view) (subst (λ (r : Refusals). l.seat.desk.refusals ≤ r.count) (sym c.calm) old.counted);
+        counted = subst (λ (x : View). x.desk.refusals ≤ now.count) (sym view) (omega (arith, old.counted, c.calm.later));
         leads = ap (λ (x : View). x.leads) view ∙ old.leads;
         bookless = ap (λ (x : View). x.books) view ∙ old.bookless;
       }

@@ -3,7 +3,7 @@ use Rattle.std.proofs.Common.{◌≡◌, ℕ, ◌+◌, ◌*◌, ◌<◌, ◌≤�
 use Rattle.std.proofs.Math.Nat.{le-max_left, le-max_right, max-le, mul_assoc}
 use Rattle.ng_class.specs.Class.{units_of}
 use Rattle.ng_class.proofs.Classes.{units_of_le}
-use Rattle.ng_mapper.specs.Mapping.{Span}
+use Rattle.ng_mapper.specs.Mapping.{NotesNone, Span}
 use Rattle.ng_mapper.specs.Runs as mapper
 use Rattle.ng_mapper.specs.declared.refusals.Refusals.{Refusals}
 use Rattle.ng_policy.specs.Ask.{IsCount}
@@ -84,7 +84,7 @@ module _ {M P : Type 0} (start : Start) (span : M → Span) (runs : M → List m
     pub has : HasMeta class meta before after
     pub bare : IsBare after.seat.desk.zero_avail after.rings class
     pub idle : after.seat.held ≡ []
-    pub calm : refused after.mapper ≡ refused before.mapper
+    pub calm : NotesNone (refused before.mapper) (refused after.mapper)
 
   -- what holds after a call
   pub record HasLeft (class : ℕ) (before after : State M P) : Type 0 where
@@ -116,7 +116,7 @@ module _ {M P : Type 0} (start : Start) (span : M → Span) (runs : M → List m
     below_mid view = below_then class (ledger_of before) (ledger_of inside) (ledger_of searched) (only_below class before inside known only)
         (supplied_below class (ledger_of inside) w stock view)
 
-    pub meta_found : {meta : ℕ} → FindsMeta start inside.seat (runs inside.mapper) inside.stock meta w (runs now) stock → refused now ≡ refused inside.mapper
+    pub meta_found : {meta : ℕ} → FindsMeta start inside.seat (runs inside.mapper) inside.stock meta w (runs now) stock → NotesNone (refused inside.mapper) (refused now)
         → HasFound class meta before searched
     meta_found {meta} finds calm =
         let view : w ≡ with_supply inside.seat w = found_view start inside.seat (runs inside.mapper) inside.stock meta w (runs now) stock finds in
@@ -132,7 +132,7 @@ module _ {M P : Type 0} (start : Start) (span : M → Span) (runs : M → List m
           };
           bare = supplied_bare class (ledger_of inside) w view none.bare;
           idle = ap (λ (x : View). x.held) view ∙ none.held ∙ idle;
-          calm = calm ∙ refused_mid;
+          calm = subst (λ (r : Refusals). NotesNone r (refused now)) refused_mid calm;
         }
 
     -- or a page was refused

@@ -2,6 +2,7 @@
 use Rattle.std.specs.Prelude.{◌≡◌, ◌≢◌, ℕ, ◌<◌, ◌∷◌, ◌++◌, List, slice_index}
 use Rattle.ng_lists.specs.Rings.{ring_of}
 use Rattle.ng_view.specs.Notes.{excuse_of_call}
+use Rattle.ng_mapper.specs.Mapping.{NotesNone}
 use Rattle.ng_mapper.specs.declared.refusals.Refusals.{Refusals}
 use Rattle.ng_terms.specs.Causes.{Rose}
 use Rattle.ng_view.specs.Lists.{Among}
@@ -37,7 +38,7 @@ pub record GoesOn (before after : View) : Type 0 where
 
 -- no map call was refused, and the excuses are as before
 pub record IsCalm (before after : View) (was now : Refusals) : Type 0 where
-  pub refused : now ≡ was
+  pub refused : NotesNone was now
   pub excuses : after.excuses ≡ before.excuses
 
 -- a map call was refused, with this number: its excuse has come

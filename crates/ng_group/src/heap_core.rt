@@ -1,4 +1,5 @@
 ghost use Rattle.std.specs.Prelude.{◌≡◌, ◌+◌, ◌*◌, ◌<◌, ◌≤◌, IfErr, IfOk, OnErr, OnOk, max, slice_get, sum_by};
+ghost use Rattle.ng_mapper.specs.Mapping.{NotesNone};
 ghost use Rattle.ng_class.specs.Class.{units_of};
 ghost use Rattle.ng_lists.specs.Rings.{ring_of};
 ghost use Rattle.ng_space.specs.Blocks.{BlockToken, HasBlock};
@@ -124,7 +125,8 @@ impl<N: Name, M: Mapper, P: Rules> Core<N, M, P> {
         ensures apart { IfOk result (λ slot. (token : Token) → HasSlot hand.old token → IsApart token slot) }
         ensures others { (token : Token) → HasSlot hand.old token → HasSlot hand.new token }
         ensures blocks { (block : BlockToken) → HasBlock hand.old block → HasBlock hand.new block }
-        ensures calm { OnOk result (M.refused self.new.mapper ≡ M.refused self.old.mapper) }
+        ensures calm { OnOk result
+            (NotesNone (M.refused self.old.mapper) (M.refused self.new.mapper)) }
         ensures excuse { IfErr result (HasExcuse hand.new) }
         ensures excused { IfErr result (λ excuse. GainsExcuse excuse.number hand.old.view hand.new.view) }
         ensures number_is { IfErr result (λ excuse. excuse.number ≡ (M.refused self.new.mapper).count) }
@@ -167,7 +169,8 @@ impl<N: Name, M: Mapper, P: Rules> Core<N, M, P> {
         ensures apart { IfOk result (λ slot. (token : Token) → HasSlot hand.old token → IsApart token slot) }
         ensures others { (token : Token) → HasSlot hand.old token → HasSlot hand.new token }
         ensures blocks { (block : BlockToken) → HasBlock hand.old block → HasBlock hand.new block }
-        ensures calm { OnOk result (M.refused self.new.mapper ≡ M.refused self.old.mapper) }
+        ensures calm { OnOk result
+            (NotesNone (M.refused self.old.mapper) (M.refused self.new.mapper)) }
         ensures excuse { IfErr result (HasExcuse hand.new) }
         ensures excused { IfErr result (λ excuse. GainsExcuse excuse.number hand.old.view hand.new.view) }
         ensures number_is { IfErr result (λ excuse. excuse.number ≡ (M.refused self.new.mapper).count) }
@@ -194,7 +197,7 @@ impl<N: Name, M: Mapper, P: Rules> Core<N, M, P> {
         ensures view { hand.new.view ≡ pushed hand.old.view slot.meta slot.index }
         ensures others { (token : Token) → HasSlot hand.old token → IsApart token slot → HasSlot hand.new token }
         ensures blocks { (block : BlockToken) → HasBlock hand.old block → HasBlock hand.new block }
-        ensures calm { M.refused self.new.mapper ≡ M.refused self.old.mapper }
+        ensures calm { NotesNone (M.refused self.old.mapper) (M.refused self.new.mapper) }
         ensures returns { ReturnsOfHand (P.keep_gives self.old.rules) M.runs self.old self.new slot.meta slot.index }
         ensures on { GoesOn self.old.seat self.new.seat }
         ensures rules { self.new.rules ≡ self.old.rules }

@@ -1,6 +1,7 @@
 // Blocks that are taken back.
 ghost use Rattle.std.specs.Prelude.{◌≡◌, ◌+◌, ◌++◌, ◌≤◌, ◌∷◌, [], IfErr, IfOk, IsOk, OnOk};
 ghost use Rattle.ng_frame.specs.Inspects.{Refuses, entry_of};
+ghost use Rattle.ng_mapper.specs.Mapping.{NotesNone};
 ghost use Rattle.ng_frame.specs.Keeps.{KeepsAll, KeepsOthers, KeepsRest};
 ghost use Rattle.ng_group.specs.Returning.{ReturnsOfHand};
 ghost use Rattle.ng_group.specs.Steps.{GoesOn};
@@ -83,7 +84,7 @@ impl<N: Name> Heap<N> {
         ensures others { KeepsOthers block.slot hand.old.view hand.new.view }
         ensures rest { KeepsRest hand.old.view hand.new.view }
         ensures frames { KeepsFrames hand.old hand.new }
-        ensures calm { M.refused core.new.mapper ≡ M.refused core.old.mapper }
+        ensures calm { NotesNone (M.refused core.old.mapper) (M.refused core.new.mapper) }
         ensures on { GoesOn core.old.seat core.new.seat }
         ensures rules { core.new.rules ≡ core.old.rules }
     {
@@ -108,7 +109,7 @@ impl<N: Name> Heap<N> {
         ensures frames { KeepsFrames hand.old hand.new }
         ensures spare { hand.new.spare ≡ hand.old.spare }
         ensures entries { hand.new.entries ≡ hand.old.entries }
-        ensures calm { M.refused core.new.mapper ≡ M.refused core.old.mapper }
+        ensures calm { NotesNone (M.refused core.old.mapper) (M.refused core.new.mapper) }
         ensures on { GoesOn core.old.seat core.new.seat }
         ensures rules { core.new.rules ≡ core.old.rules }
     {

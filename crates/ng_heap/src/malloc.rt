@@ -1,5 +1,6 @@
 // Blocks that are given.
 ghost use Rattle.std.specs.Prelude.{◌≡◌, ◌≢◌, ◌+◌, ◌++◌, ◌<◌, ◌≤◌, ◌↔◌, ◌∷◌, [], Err, IfErr, IfOk, OnOk};
+ghost use Rattle.ng_mapper.specs.Mapping.{NotesNone};
 ghost use Rattle.ng_frame.specs.Keeps.{KeepsAll, KeepsOthers, KeepsRest, KeepsSlots};
 ghost use Rattle.ng_group.specs.Hands.{GainsExcuse, GainsSlot};
 ghost use Rattle.ng_group.specs.Steps.{GoesOn};
@@ -44,7 +45,8 @@ impl<N: Name> Heap<N> {
         ensures builds { IfOk result (λ block. BuildsFor (P.count_gives core.old.rules) core.old core.new n hand.new block.slot) }
         ensures given { IfOk result (λ block. IsGivenNow hand.old.view block core.new.counter hand.new) }
         ensures entered { IfOk result (λ block. hand.new.entries ≡ hand.old.entries ++ Give n 16 block.at ∷ []) }
-        ensures calm { OnOk result (M.refused core.new.mapper ≡ M.refused core.old.mapper) }
+        ensures calm { OnOk result
+            (NotesNone (M.refused core.old.mapper) (M.refused core.new.mapper)) }
 
         ensures large { (result ≡ Err refusal.TooLarge) ↔ IsTooLarge 1 n 16 }
         ensures cause { IfErr result (HasRefusalCause (P.count_gives core.old.rules) M.refused core.old core.new n) }
@@ -95,7 +97,8 @@ impl<N: Name> Heap<N> {
         ensures has { IfOk result (HasSlot hand.new) }
         ensures gains { IfOk result (λ slot. GainsSlot slot.meta slot.index hand.old.view hand.new.view) }
         ensures fresh { IfOk result (IsFresh hand.old) }
-        ensures calm { OnOk result (M.refused core.new.mapper ≡ M.refused core.old.mapper) }
+        ensures calm { OnOk result
+            (NotesNone (M.refused core.old.mapper) (M.refused core.new.mapper)) }
         ensures cause { IfErr result (λ excuse. HasRefusalCause (P.count_gives core.old.rules) M.refused core.old core.new n (refusal.NoMemory excuse.number)) }
         ensures excuse { IfErr result (HasExcuse hand.new) }
         ensures excused { IfErr result (λ excuse. GainsExcuse excuse.number hand.old.view hand.new.view) }

@@ -31,3 +31,9 @@ pub record IsFree (span : Span) (runs : List Run) (run : Run) : Type 0 where
 pub record Notes (before now : Refusals) (pages : ℕ) : Type 0 where
   pub last : now.last ≡ pages
   pub most : now.most ≡ max before.most pages
+
+-- no refused call was noted: the count didn't fall, and the last and the most refused pages are as before
+pub record NotesNone (before now : Refusals) : Type 0 where
+  pub later : before.count ≤ now.count
+  pub last : now.last ≡ before.last
+  pub most : now.most ≡ before.most

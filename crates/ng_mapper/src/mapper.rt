@@ -2,7 +2,7 @@ ghost use Rattle.std.specs.Prelude.{◌≡◌, ◌≢◌, ◌≤◌, ◌↔◌, 
 ghost use Rattle.ng_terms.specs.Causes.{HasCause};
 ghost use Rattle.ng_mapper.specs.declared.refusals.Refusals.{Refusals};
 ghost use Rattle.ng_mapper.specs.Runs.{Run, AddsRun, RemovesRun};
-ghost use Rattle.ng_mapper.specs.Mapping.{Span, IsSpan, AreLaid, IsFree, Notes};
+ghost use Rattle.ng_mapper.specs.Mapping.{Span, IsSpan, AreLaid, IsFree, Notes, NotesNone};
 
 use crate::refusals::Refusals;
 
@@ -39,7 +39,7 @@ pub trait Mapper {
         requires { 1 ≤ pages }
         ensures free { IfOk result (λ at. IsFree (span self.old) (runs self.old) (at, pages)) }
         ensures mapped { IfOk result (λ at. AddsRun (runs self.old) (runs self.new) (at, pages)) }
-        ensures calm { OnOk result (refused self.new ≡ refused self.old) }
+        ensures calm { OnOk result (NotesNone (refused self.old) (refused self.new)) }
 
         ensures cause { HasCause (refused self.old).count (refused self.new).count result }
         ensures number { IfErr result (λ error. error.number ≡ (refused self.new).count) }
@@ -52,7 +52,7 @@ pub trait Mapper {
     fn unmap(&mut self, addr: u64, pages: u64)
         requires { Contains (runs self.old) (addr, pages) }
         ensures unmapped { RemovesRun (runs self.old) (runs self.new) (addr, pages) }
-        ensures calm { refused self.new ≡ refused self.old }
+        ensures calm { NotesNone (refused self.old) (refused self.new) }
         ensures constant { span self.new ≡ span self.old };
 
     /// How many map calls were refused. At 2^64 - 1 the count stands still.

@@ -2,14 +2,16 @@
 use Rattle.std.proofs.Common.{◌≡◌, ℕ, ◌≤◌, List, [], ◌++◌, length, take, Option, Some, None, Result, Err, sym, ap, ◌∙◌, append_assoc, arith}
 use Rattle.std.proofs.lemmas.List.{append-nil, take-append-le, take-take}
 use Rattle.ng_mtrace.specs.Faults.{first_fault}
-use Rattle.ng_mtrace.specs.PartRead.{faults_left, logs_left}
-use Rattle.ng_mtrace.specs.Reads.{ReadsLogs, MeetsFault}
+use Rattle.ng_mtrace.specs.OpenSections.{count_of}
+use Rattle.ng_mtrace.specs.PartRead.{faults_left, logs_left, IsReady}
+use Rattle.ng_mtrace.specs.Reads.{ReadsLogs, MeetsFault, TakesFaultless}
 use Rattle.ng_mtrace.specs.Sections.{logs_of}
 use Rattle.ng_mtrace.specs.Streams.{put_back, AtEnd}
 use Rattle.ng_mtrace.specs.declared.log.Logs.{Logs}
 use Rattle.ng_mtrace.specs.declared.log_fault.LogFault.{LogFault}
 use Rattle.ng_mtrace.specs.declared.log_fault.LogFault.TheVariants.{BadLine, Limit, Host}
 use Rattle.ng_mtrace.specs.declared.part_read.PartRead.{PartRead}
+use Rattle.ng_mtrace.proofs.LineParts.{ended_faults}
 use Rattle.ng_mtrace.proofs.StreamLemmas.{put_back-nil, taken-more}
 
 -- what a read gave, by the buffer that it was copied back to
@@ -23,6 +25,11 @@ read-copied before now buffer tail copied count len read within long is =
 pub record Stands (part : PartRead) (bytes : List ℕ) : Type 0 where
   pub faults : (rest : List ℕ) → faults_left part rest ≡ first_fault (bytes ++ rest)
   pub logs : (rest : List ℕ) → logs_left part rest ≡ (logs_of (bytes ++ rest)).logs
+
+-- what was read, where the text ends here, has no fault
+pub faults_left-nil : (part : PartRead) → IsReady part → faults_left part [] ≡ None
+unfolding faults_left
+faults_left-nil part ready = ended_faults part.number (count_of part.sections) part.sections.active part.line.items ready.unfed ready.few ready.full (omega (arith, ready.short))
 
 -- one more piece
 pub fed_more : (part next : PartRead) (bytes fed : List ℕ) → Stands part bytes
@@ -43,6 +50,15 @@ reads_logs before during now part bytes logs taken last ended stands faultless a
   ended = ended;
   faultless = ap first_fault (sym (append-nil bytes)) ∙ sym (stands.faults []) ∙ faultless;
   logs_are = ap (λ (found : List _). record { logs = found }) (are ∙ stands.logs [] ∙ ap (λ text. (logs_of text).logs) (append-nil bytes));
+}
+
+-- a read that failed behind what was taken
+pub takes_faultless : (before during now : Option (List ℕ)) (part : PartRead) (bytes : List ℕ) → before ≡ put_back bytes during → now ≡ during
+    → Stands part bytes → IsReady part → TakesFaultless before now
+takes_faultless before during now part bytes taken kept stands ready = record {
+  bytes = bytes;
+  taken = taken ∙ ap (put_back bytes) (sym kept);
+  faultless = ap first_fault (sym (append-nil bytes)) ∙ sym (stands.faults []) ∙ faults_left-nil part ready;
 }
 
 -- a fault in the piece

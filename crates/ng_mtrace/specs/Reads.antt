@@ -20,6 +20,12 @@ pub record MeetsFault (fault : LogFault) (before now : Option (List ℕ)) : Type
   pub taken : before ≡ put_back bytes now
   pub first : (rest : List ℕ) → first_fault (bytes ++ rest) ≡ Some fault
 
+-- bytes were taken that have no fault, so that none was certain yet
+pub record TakesFaultless (before now : Option (List ℕ)) : Type 0 where
+  pub bytes : List ℕ
+  pub taken : before ≡ put_back bytes now
+  pub faultless : first_fault bytes ≡ None
+
 -- one log at least and sixteen at most, of at most 1,000,000 lines in all
 pub record IsWithinLimits (logs : Logs) : Type 0 where
   pub some : 0 < length logs.logs

@@ -1,6 +1,5 @@
 -- Bytes that a source has left and that a sink was given, told or not.
-use Rattle.std.specs.Prelude.{◌≡◌, ◌≤◌, ◌<◌, ℕ, List, [], ◌++◌, length, take, drop, Option, Some, None}
-use Rattle.std.specs.Option.{option_map}
+use Rattle.std.specs.Prelude.{◌≡◌, ◌≤◌, ℕ, List, [], ◌++◌, length, take, Option, Some, None}
 
 -- these bytes before what is left, where that is told
 abbrev pub put_back : List ℕ → Option (List ℕ) → Option (List ℕ)
@@ -12,19 +11,10 @@ abbrev pub added : Option (List ℕ) → List ℕ → Option (List ℕ)
 added (Some written) bytes = Some (written ++ bytes)
 added None bytes = None
 
--- what is left once this many bytes are taken, where that is told
-abbrev pub taken : ℕ → Option (List ℕ) → Option (List ℕ)
-taken count left = option_map (λ bytes. drop count bytes) left
-
 -- nothing is left, where that is told
 abbrev pub AtEnd : Option (List ℕ) → Type 0
 AtEnd (Some left) = left ≡ []
 AtEnd None = Unit {0}
-
--- more than this many bytes are left, where that is told
-abbrev pub MoreThan : ℕ → Option (List ℕ) → Type 0
-MoreThan limit (Some left) = limit < length left
-MoreThan limit None = Unit {0}
 
 -- a beginning of these bytes was written, where that is told
 pub record WritesPart (before now : Option (List ℕ)) (bytes : List ℕ) : Type 0 where

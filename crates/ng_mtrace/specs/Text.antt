@@ -13,7 +13,3 @@ parts_of text = parts_at 10 text
 -- no byte has this value
 abbrev pub IsWithout : ℕ → List ℕ → Type 0
 IsWithout cut text = All (λ byte. (byte == cut) ≡ false) text
-
--- the words of a line of the first form, where one space stands between two of them
-abbrev pub words_of : List ℕ → List (List ℕ)
-words_of line = parts_at 32 line

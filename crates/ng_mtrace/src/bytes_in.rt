@@ -59,6 +59,8 @@ impl Source for BytesIn {
 
     ghost faults = { λ s. s.faults };
 
+    ghost exact = { Unit {0} };
+
     fn read(&mut self, buf: &mut [u8]) -> Result<usize, Failed>
         requires { 0 < length buf.old }
         ensures within { IfOk result (λ count. count ≤ length buf.new) }

@@ -32,6 +32,8 @@ impl<R: Read> Source for Input<R> {
 
     ghost faults = { λ s. s };
 
+    ghost exact = { Unit {0} };
+
     fn read(&mut self, buf: &mut [u8]) -> Result<usize, Failed> {
         match self.inner.read(buf) {
             Ok(count) => Ok(count),

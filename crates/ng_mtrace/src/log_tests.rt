@@ -220,9 +220,18 @@ fn an_input_has_at_most_a_million_lines(rt: HostRuntime) -> Result<(), Fail> {
 }
 
 #[test]
-fn a_failed_read_ends_the_reading(rt: HostRuntime) -> Result<(), Fail> {
-    let text = b"= Start\n- 0x10\nx\n";
-    let mut input = source(rt.alloc(), text, 4, &[2])?;
-    assert!(rt; matches!(read_logs(rt.alloc(), &mut input), Err(LogFault::Read)));
+fn the_first_of_a_fault_and_a_failed_read_decides(rt: HostRuntime) -> Result<(), Fail> {
+    // The line feed of line 3 comes with the fifth read.
+    let text = b"= Start\n- 0x10\nx\n- 0x10\n";
+    let rows = [
+        (1, LogFault::Read),
+        (2, LogFault::Read),
+        (5, LogFault::Read),
+        (6, LogFault::BadLine(3)),
+    ];
+    for (call, want) in rows {
+        let mut input = source(rt.alloc(), text, 4, &[call])?;
+        assert_eq!(rt; read_logs(rt.alloc(), &mut input).err(), Some(want));
+    }
     Ok(())
 }

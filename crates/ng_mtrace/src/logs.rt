@@ -1,5 +1,5 @@
-ghost use Rattle.std.specs.Prelude.{◌≡◌, ◌≤◌, ℕ, [], IfOk, Err};
-ghost use Rattle.ng_mtrace.specs.Reads.{ReadsLogs, MeetsFault, IsWithinLimits};
+ghost use Rattle.std.specs.Prelude.{◌≡◌, ◌≢◌, ◌≤◌, ℕ, [], IfOk, Err};
+ghost use Rattle.ng_mtrace.specs.Reads.{ReadsLogs, MeetsFault, TakesFaultless, IsWithinLimits};
 ghost use Rattle.ng_terms.specs.Causes.{Rose};
 
 use crate::log::Logs;
@@ -16,8 +16,13 @@ pub fn read_logs<I: Source>(alloc: Global, input: &mut I) -> Result<Logs, LogFau
     ensures ok { IfOk result (λ logs. ReadsLogs (I.left input.old) (I.left input.new) logs) }
     ensures limits { IfOk result IsWithinLimits }
 
-    // A fault is the first in the order of the bytes; where no log is told, all were read.
+    // The first event in the order of the bytes decides: a read that fails behind a fault hides
+    // none, and no other answer comes behind a read that failed. Where no log is told, all were read.
     ensures read { result ≡ Err LogFault.Read → Rose (I.faults input.old) (I.faults input.new) }
+    ensures undecided { result ≡ Err LogFault.Read
+        → TakesFaultless (I.left input.old) (I.left input.new) }
+    ensures unfailed { I.exact → result ≢ Err LogFault.Read
+        → I.faults input.new ≡ I.faults input.old }
     ensures bad_line { (line : ℕ) → result ≡ Err (LogFault.BadLine line)
         → MeetsFault (LogFault.BadLine line) (I.left input.old) (I.left input.new) }
     ensures limit { (line : ℕ) → result ≡ Err (LogFault.Limit line)

@@ -1,4 +1,4 @@
-ghost use Rattle.std.specs.Prelude.{◌≡◌, ◌<◌, ◌≤◌, ℕ, List, length, take, IfOk, OnErr, Option};
+ghost use Rattle.std.specs.Prelude.{◌≡◌, ◌<◌, ◌≤◌, ℕ, List, length, take, IfOk, OnOk, OnErr, Option};
 ghost use Rattle.ng_mtrace.specs.Streams.{put_back, added, AtEnd};
 ghost use Rattle.ng_terms.specs.Causes.{HasCause};
 
@@ -14,6 +14,9 @@ pub trait Source {
     /// How often a read has failed.
     ghost faults: { Self → ℕ };
 
+    /// That the count rises at no read but one that fails, where the source tells that.
+    ghost exact: { Type 0 };
+
     /// Reads the next bytes into the front of `buf`, and answers how many. 0 comes only at the end.
     fn read(&mut self, buf: &mut [u8]) -> Result<usize, Failed>
         requires { 0 < length buf.old }
@@ -23,7 +26,8 @@ pub trait Source {
         ensures end { IfOk result (λ count. count ≡ 0 → AtEnd (left self.new)) }
 
         ensures err { OnErr result (left self.new ≡ left self.old) }
-        ensures cause { HasCause (faults self.old) (faults self.new) result };
+        ensures cause { HasCause (faults self.old) (faults self.new) result }
+        ensures faultless { exact → OnOk result (faults self.new ≡ faults self.old) };
 }
 
 /// Bytes that are written a few at a time.

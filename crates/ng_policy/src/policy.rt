@@ -9,9 +9,9 @@ use crate::rules::Rules;
 #[derive(Drop)]
 pub struct Policy<C, K> {
     /// How many slots a new group has.
-    pub count: C,
+    count: C,
     /// Whether a group whose slots are all free is kept.
-    pub keep: K,
+    keep: K,
 }
 
 impl<C: Fn(Ask) -> u32, K: Fn(Spare) -> bool> Policy<C, K> {

@@ -6,7 +6,7 @@ use Rattle.ng_lists.proofs.CircleLemmas.{only}
 use Rattle.ng_lists.proofs.DistinctLemmas.{IsDistinct, distinct_append, distinct_back, distinct_cons, distinct_across, distinct_front, distinct_tail}
 use Rattle.ng_lists.proofs.RingLemmas.{all_of}
 use Rattle.ng_meta.specs.Place.{IsMetaPlace, meta_place}
-use Rattle.ng_shelf.specs.Stock.{Stock, free_of, metas_from, metas_of}
+use Rattle.ng_shelf.specs.Stock.{Stock, free_of, metas_from, metas_of, unused_left}
 use Rattle.ng_shelf.specs.Stocked.{IsStock, unused_of}
 
 -- a meta of an area, with its index
@@ -54,6 +54,9 @@ rest_of_both (y ∷ xs) ys x first = refl
 
 pub rest_unused : (returned : List ℕ) (area unused : ℕ) → slice_get returned 0 ≡ None → unused < 101 → drop 1 returned ++ unused_of area (unused + 1) ≡ drop 1 (returned ++ unused_of area unused)
 rest_unused returned area unused none some = rw (nothing_first returned none) (sym (ap (drop 1) (unused_next area unused some)))
+
+pub unused_taken : (returned : List ℕ) (area unused : ℕ) → slice_get returned 0 ≡ None → unused < 101 → unused_of area (unused + 1) ≡ unused_left returned (unused_of area unused)
+unused_taken returned area unused none some = rw (nothing_first returned none) (sym (ap (drop 1) (unused_next area unused some)))
 
 distinct_rest : (xs ys : List ℕ) → IsDistinct (xs ++ ys) → IsDistinct (drop 1 xs ++ ys)
 distinct_rest [] ys distinct = distinct

@@ -1,6 +1,6 @@
 ghost use Rattle.std.specs.Prelude.{◌≡◌, ◌≢◌, ◌<◌, ◌≤◌, ◌*◌, ◌%◌, ◌++◌, ◌∷◌, [], All, AllPairs, Contains, IfOk, drop, slice_get};
 ghost use Rattle.ng_meta.specs.Place.{IsMetaPlace};
-ghost use Rattle.ng_shelf.specs.Stock.{free_of, metas_of};
+ghost use Rattle.ng_shelf.specs.Stock.{free_of, metas_of, unused_left};
 
 use crate::free_metas::FreeMetas;
 use ng_meta::{METAS, meta_at};
@@ -67,6 +67,8 @@ impl MetaStock {
     pub fn take(&mut self) -> Option<u64>
         ensures first { result ≡ slice_get (free_of self.old) 0 }
         ensures rest { free_of self.new ≡ drop 1 (free_of self.old) }
+        ensures returned { self.new.returned ≡ drop 1 self.old.returned }
+        ensures unused { self.new.unused ≡ unused_left self.old.returned self.old.unused }
         ensures area { self.new.area ≡ self.old.area }
         ensures pages { self.new.pages ≡ self.old.pages }
     {

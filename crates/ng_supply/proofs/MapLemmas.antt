@@ -1,6 +1,6 @@
 -- What a mapper's new run is for the lock's seat.
 use Rattle.std.proofs.Common.{◌≡◌, ℕ, ◌≤◌, true, List, sym, ap, subst, ◌∙◌, arith}
-use Rattle.ng_mapper.specs.Mapping.{AreLaid, IsFree, IsSpan, Span}
+use Rattle.ng_mapper.specs.Mapping.{AreLaid, IsFree, IsSpan, NotesNone, Span}
 use Rattle.ng_mapper.specs.Runs as mapper
 use Rattle.ng_mapper.specs.declared.refusals.Refusals.{Refusals}
 use Rattle.ng_view.specs.Conditions.{Sees}
@@ -29,13 +29,13 @@ module _ (start : Start) (v : View) (span : Span) (live : List mapper.Run) (refu
 
   module _ (w : View) (note : NotesRun v a pages true w) where
     -- the mapper after the call
-    pub mapper_noted : (span' : Span) (live' : List mapper.Run) (refused' : Refusals) → AreLaid span live → span' ≡ span → mapper.AddsRun live live' (a, pages) → refused' ≡ refused → IsHeapMapper start w span' live' refused'
+    pub mapper_noted : (span' : Span) (live' : List mapper.Run) (refused' : Refusals) → AreLaid span live → span' ≡ span → mapper.AddsRun live live' (a, pages) → NotesNone refused refused' → IsHeapMapper start w span' live' refused'
     mapper_noted span' live' refused' laid same adds calm = record {
       lower = ap (λ (s : Span). s.lower) same ∙ is.lower;
       upper = ap (λ (s : Span). s.upper) same ∙ is.upper;
       size = ap (λ (s : Span). s.size) same ∙ is.size;
       mapped = subst (λ (x : View). AreMapped x.desk.layout.runs live') (sym note.view) (mapped_new span v.desk.layout.runs live laid is.mapped live' a pages free adds);
-      counted = subst (λ (x : View). x.desk.refusals ≤ refused'.count) (sym note.view) (subst (λ (r : Refusals). v.desk.refusals ≤ r.count) (sym calm) is.counted);
+      counted = subst (λ (x : View). x.desk.refusals ≤ refused'.count) (sym note.view) (omega (arith, is.counted, calm.later));
     }
 
     pub maps : IsSpan span → start.pages ≤ 16384 → MapsRun start v a pages w

@@ -1,4 +1,5 @@
 ghost use Rattle.std.specs.Prelude.{◌≡◌, [], IfErr, IfNone, IfOk, IfSome, OnErr, OnOk};
+ghost use Rattle.ng_mapper.specs.Mapping.{NotesNone};
 ghost use Rattle.ng_shelf.specs.Stock.{free_of};
 ghost use Rattle.ng_supply.specs.Metas.{AddsArea, FindsMeta, IsHeapStock, IsNext};
 ghost use Rattle.ng_supply.specs.Runs.{IsHeapMapper, RefusesRun};
@@ -27,7 +28,7 @@ pub fn find_meta<N: Name, M: Mapper>(
 
     ensures ok { IfOk result (λ meta. FindsMeta N.facts.start
         seat.old (M.runs mapper.old) stock.old meta seat.new (M.runs mapper.new) stock.new) }
-    ensures calm { OnOk result (M.refused mapper.new ≡ M.refused mapper.old) }
+    ensures calm { OnOk result (NotesNone (M.refused mapper.old) (M.refused mapper.new)) }
 
     // A page is asked for where the stock is empty, and nowhere else.
     ensures err { IfErr result (λ number. RefusesRun
@@ -75,7 +76,7 @@ fn add_area<N: Name, M: Mapper>(
     ensures ok { IfOk result (λ addr. AddsArea N.facts.start
         seat.old (M.runs mapper.old) stock.old addr seat.new (M.runs mapper.new) stock.new) }
     ensures stock { OnOk result (IsHeapStock N.facts.start seat.new stock.new) }
-    ensures calm { OnOk result (M.refused mapper.new ≡ M.refused mapper.old) }
+    ensures calm { OnOk result (NotesNone (M.refused mapper.old) (M.refused mapper.new)) }
 
     ensures err { IfErr result (λ number. RefusesRun
         seat.old (M.refused mapper.old) (M.refused mapper.new) 1 number seat.new) }

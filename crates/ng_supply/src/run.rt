@@ -1,4 +1,5 @@
 ghost use Rattle.std.specs.Prelude.{◌≡◌, ◌≤◌, IfErr, IfOk, OnErr, OnOk};
+ghost use Rattle.ng_mapper.specs.Mapping.{NotesNone};
 ghost use Rattle.ng_mapper.specs.Runs.{AddsRun};
 ghost use Rattle.ng_supply.specs.Runs.{IsHeapMapper, MapsRun, RefusesRun};
 
@@ -23,7 +24,7 @@ pub fn map_run<N: Name, M: Mapper>(
     ensures ok { IfOk result (λ addr. MapsRun N.facts.start seat.old addr pages seat.new) }
     ensures mapped { IfOk result (λ addr.
         AddsRun (M.runs mapper.old) (M.runs mapper.new) (addr, pages)) }
-    ensures calm { OnOk result (M.refused mapper.new ≡ M.refused mapper.old) }
+    ensures calm { OnOk result (NotesNone (M.refused mapper.old) (M.refused mapper.new)) }
 
     ensures err { IfErr result (λ number. RefusesRun
         seat.old (M.refused mapper.old) (M.refused mapper.new) pages number seat.new) }

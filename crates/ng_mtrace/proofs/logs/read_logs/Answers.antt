@@ -1,11 +1,11 @@
-use Rattle.std.proofs.Common.{◌≡◌, ℕ, List, [], ◌++◌, take, drop, length, vec_len, sym, arith}
+use Rattle.std.proofs.Common.{◌≡◌, ◌∙◌, ℕ, List, [], ◌++◌, take, drop, length, vec_len, refl, sym, arith}
 use Rattle.ng_mtrace.specs.PartRead.{logs_left}
 use Rattle.ng_mtrace.specs.Reads.{ReadsLogs}
 use Rattle.ng_mtrace.specs.Streams.{put_back}
 use Rattle.ng_mtrace.specs.declared.log_fault.LogFault.TheVariants.{BadLine, Limit}
 use Rattle.std.proofs.lemmas.Result.{IfOk-weaker}
 use Rattle.ng_mtrace.proofs.StreamLemmas.{put_back-nil, taken-more}
-use Rattle.ng_mtrace.proofs.ReadSteps.{read-copied, fed_more, reads_logs, meets_fault, bad_line_is_not_host, limit_is_not_host, same_fault}
+use Rattle.ng_mtrace.proofs.ReadSteps.{read-copied, fed_more, reads_logs, takes_faultless, meets_fault, bad_line_is_not_host, limit_is_not_host, same_fault}
 use Rattle.ng_mtrace.proofs.logs.read_logs.Goals as goal
 
 pub loop-count-init : goal.loop-count-init
@@ -15,6 +15,7 @@ loop-count-init g c = record {
   taken = put_back-nil (g.I.Source.left c.args.input.now);
   stands = record { faults = c.in-Ok-new.ensures.faults; logs = c.in-Ok-new.ensures.logs };
   wide = omega (arith, c.in-Ok.ensures.len);
+  exact = λ _. refl;
   later = omega arith;
 }
 
@@ -31,6 +32,7 @@ loop-count-preserved g c =
       taken = taken-more (g.I.Source.left c.args.input.now) (g.I.Source.left c.loop-count.input) (g.I.Source.left c.read.new.self) whole.bytes fed whole.taken read;
       stands = fed_more c.loop-count.part c.feed.new.self whole.bytes fed whole.stands c.in_default-feed.ensures.faults c.in_default-feed.ensures.logs;
       wide = whole.wide;
+      exact = λ exact. c.in-Ok-read.ensures.faultless exact ∙ whole.exact exact;
       later = omega (arith, whole.later, c.in-Ok-read.ensures.cause.later);
     }
 
@@ -66,3 +68,11 @@ returns-in-Err-clause-limit g c = λ line same.
     let read : g.I.Source.left c.loop-count.input ≡ put_back fed (g.I.Source.left c.read.new.self) =
     read-copied (g.I.Source.left c.loop-count.input) (g.I.Source.left c.read.new.self) c.read.new.buf (drop (length c.read.new.buf) c.loop-count.piece.items) c.deref.result.now c.in-Ok-read.count (vec_len c.loop-count.piece) c.in-Ok-read.ensures.bytes c.in-Ok-read.ensures.within long c.deref.ensures.value in
     meets_fault (g.I.Source.left c.args.input.now) (g.I.Source.left c.loop-count.input) (g.I.Source.left c.read.new.self) c.loop-count.part whole.bytes fed c.in-Err.fault (Limit line) whole.taken read whole.stands (same_fault c.in-Err.fault (Limit line) same) (limit_is_not_host line) c.in-Err.ensures.err
+
+pub returns-in_default-read-clause-undecided : goal.returns-in_default-read-clause-undecided
+returns-in_default-read-clause-undecided g c = λ _.
+    let whole = c.loop-count.invariant in
+    takes_faultless (g.I.Source.left c.args.input.now) (g.I.Source.left c.loop-count.input) (g.I.Source.left c.read.new.self) c.loop-count.part whole.bytes whole.taken (c.in_default-read.ensures.err) whole.stands whole.ready
+
+pub returns-in_default-read-clause-unfailed : goal.returns-in_default-read-clause-unfailed
+returns-in_default-read-clause-unfailed g c = λ exact other. absurd (other refl)

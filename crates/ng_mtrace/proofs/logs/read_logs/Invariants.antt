@@ -12,6 +12,7 @@ invariant-loop-count g l = record {
   taken : g.I.Source.left l.initial.input ≡ put_back bytes (g.I.Source.left l.input);
   stands : Stands l.part bytes;
   wide : 0 < vec_len l.piece;
+  exact : g.I.Source.exact → g.I.Source.faults l.input ≡ g.I.Source.faults l.initial.input;
   later : g.I.Source.faults l.initial.input ≤ g.I.Source.faults l.input;
 }
 

@@ -1,5 +1,4 @@
 use Rattle.std.proofs.Common.{ℕ, ◌<◌, refl, sym, ap, subst, ◌∙◌, arith}
-use Rattle.ng_mapper.specs.declared.refusals.Refusals.{Refusals}
 use Rattle.ng_policy.specs.Ask.{IsCount}
 use Rattle.ng_policy.specs.declared.ask.Ask.{Ask}
 use Rattle.ng_ledger.specs.Rings.{IsBare}
@@ -190,7 +189,7 @@ returns-in-Err-clause-leaves g t c =
 pub returns-in-Err-clause-most : goal.returns-in-Err-clause-most
 returns-in-Err-clause-most g t c =
     most_few _ _ _ _
-    (ap (λ (r : Refusals). r.most) (found g t (goal.at.returns-in-Err-clause-most g t c).In_ok-meta).calm)
+    (found g t (goal.at.returns-in-Err-clause-most g t c).In_ok-meta).calm.most
     (ap (λ (s : State g.row.M.Denot g.row.P.Denot). (g.M.Mapper.refused s.mapper).most) c.self-then-not-is_nested_size.view_is ∙ c.in-Err.ensures.most)
     (shape_few _ c.args.class c.args.bytes c.count-count.result c.ask-ask.ensures.asks.class_is c.requires.class c.requires.bytes c.count-count.ensures.allowed)
 

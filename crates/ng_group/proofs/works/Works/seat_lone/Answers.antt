@@ -1,5 +1,4 @@
 use Rattle.std.proofs.Common.{ap, max, refl, ◌∙◌}
-use Rattle.ng_mapper.specs.declared.refusals.Refusals.{Refusals}
 use Rattle.ng_terms.specs.Accounts.{pages_for}
 use Rattle.ng_group.specs.States.{State, ledger_of}
 use Rattle.ng_group.proofs.BuildingLemmas.{on_err}
@@ -60,7 +59,7 @@ pub returns-in-Err-clause-most : goal.returns-in-Err-clause-most
 returns-in-Err-clause-most g c =
     most_same (g.M.Mapper.refused c.args.self.now.mapper).most (g.M.Mapper.refused c.find_meta.new.mapper).most _ (pages_for c.args.bytes)
     (ap (λ (s : State g.row.M.Denot g.row.P.Denot). (g.M.Mapper.refused s.mapper).most) c.self-2.view_is ∙ c.in-Err.ensures.most)
-    (ap (λ (r : Refusals). r.most) c.in_ok-meta.ensures.calm
+    (c.in_ok-meta.ensures.calm.most
     ∙ ap (λ (s : State g.row.M.Denot g.row.P.Denot). (g.M.Mapper.refused s.mapper).most) c.self.view_is)
 
 -- ---- the area of a meta was refused

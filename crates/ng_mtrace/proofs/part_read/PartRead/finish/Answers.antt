@@ -1,25 +1,22 @@
-use Rattle.std.proofs.Common.{◌≡◌, [], None, length, vec_len, ap, ◌∙◌, sym, arith}
+use Rattle.std.proofs.Common.{◌≡◌, [], length, vec_len, ap, ◌∙◌, sym, arith}
 use Rattle.std.proofs.lemmas.Bool.{eqb-true}
 use Rattle.std.proofs.lemmas.List.{nil_from_length}
-use Rattle.ng_mtrace.specs.OpenSections.{count_of, logs_after}
-use Rattle.ng_mtrace.specs.PartRead.{faults_left, logs_left, IsReady}
+use Rattle.ng_mtrace.specs.OpenSections.{logs_after}
+use Rattle.ng_mtrace.specs.PartRead.{logs_left, IsReady}
 use Rattle.ng_mtrace.specs.declared.part_read.PartRead.{PartRead}
-use Rattle.ng_mtrace.proofs.LineParts.{ended_faults, ended_kinds}
+use Rattle.ng_mtrace.proofs.LineParts.{ended_kinds}
+use Rattle.ng_mtrace.proofs.ReadSteps.{faults_left-nil}
 use Rattle.ng_mtrace.proofs.part_read.PartRead.finish.Goals as goal
-
-faultless : (r : PartRead) → IsReady r → faults_left r [] ≡ None
-unfolding faults_left
-faultless r ready = ended_faults r.number (count_of r.sections) r.sections.active r.line.items ready.unfed ready.few ready.full (omega (arith, ready.short))
 
 logs_are : (r : PartRead) → IsReady r → logs_left r [] ≡ logs_after r.sections []
 unfolding logs_left
 logs_are r ready = ap (λ kinds. logs_after r.sections kinds) (ended_kinds r.line.items ready.unfed)
 
 pub returns-then-is_empty-clause-faultless : goal.returns-then-is_empty-clause-faultless
-returns-then-is_empty-clause-faultless c = faultless c.args.self c.requires
+returns-then-is_empty-clause-faultless c = faults_left-nil c.args.self c.requires
 
 pub returns-clause-faultless : goal.returns-clause-faultless
-returns-clause-faultless c = faultless c.args.self c.requires
+returns-clause-faultless c = faults_left-nil c.args.self c.requires
 
 pub returns-then-is_empty-clause-none : goal.returns-then-is_empty-clause-none
 returns-then-is_empty-clause-none c =
