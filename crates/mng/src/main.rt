@@ -2,8 +2,8 @@
 #![tactic(auto)]
 
 mod asked;
-mod choices;
 mod cap;
+mod choices;
 mod closed;
 mod fresh;
 mod numbers;

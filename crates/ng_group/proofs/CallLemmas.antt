@@ -7,7 +7,7 @@ use Rattle.std.specs.List.{slice_get}
 use Rattle.ng_lists.specs.Rings.{ring_of}
 use Rattle.ng_lists.proofs.MemberLemmas.{Contains-first}
 use Rattle.ng_view.specs.Notes.{excuse_of_call}
-use Rattle.ng_mapper.specs.Mapping.{Span}
+use Rattle.ng_mapper.specs.Mapping.{NotesNone, Span}
 use Rattle.ng_mapper.specs.Runs as mapper
 use Rattle.ng_mapper.specs.declared.refusals.Refusals.{Refusals}
 use Rattle.ng_meta.specs.Place.{IsMetaPlace}
@@ -117,10 +117,13 @@ pub works_of : {N M P : Type 0} {x y : Inside N M P} → x ≡ y → x.works ≡
 works_of same = ap (λ x. x.works) same
 
 -- ---- the most refused pages stay within their bound, where no map call was refused, or one for so many pages
+pub still_bounded : (facts : Facts) (was now : Refusals) → NotesNone was now → IsMostBounded facts was → IsMostBounded facts now
+still_bounded facts was now calm bounded = omega (arith, calm.most)
+
 pub bounded_calm : {M P : Type 0} (facts : Facts) (refused : M → Refusals) {s s' : State M P} → s ≡ s' → (was : Refusals) → IsMostBounded facts was
-    → refused s'.mapper ≡ was → IsMostBounded facts (refused s.mapper)
-bounded_calm {M = M} {P = P} facts refused same was bounded calm =
-    subst (λ (x : State M P). IsMostBounded facts (refused x.mapper)) (sym same) (subst (IsMostBounded facts) (sym calm) bounded)
+    → NotesNone was (refused s'.mapper) → IsMostBounded facts (refused s.mapper)
+bounded_calm {M = M} {P = P} facts refused {s = s} {s' = s'} same was bounded calm =
+    subst (λ (x : State M P). IsMostBounded facts (refused x.mapper)) (sym same) (still_bounded facts was (refused s'.mapper) calm bounded)
 
 pub bounded_most : {M P : Type 0} (facts : Facts) (refused : M → Refusals) {s s' : State M P} → s ≡ s' → (was : Refusals) → IsMostBounded facts was
     → (pages : ℕ) → (refused s'.mapper).most ≤ max was.most pages → pages ≤ max 512 (pages_for facts.start.cap)

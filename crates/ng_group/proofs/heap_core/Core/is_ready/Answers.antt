@@ -1,7 +1,7 @@
-use Rattle.std.proofs.Common.{ap, ◌∙◌, arith, refl}
+use Rattle.std.proofs.Common.{ap, ◌∙◌, arith, sym, subst}
+use Rattle.ng_group.specs.Opening.{IsMostBounded}
 use Rattle.ng_group.specs.declared.heap_core.Core.TheInside.{Inside}
 use Rattle.ng_group.proofs.ClassForLemmas.{came_at, cells_at, masks_at, notes_at, ready_at, rests_at, test_avail, test_freed}
-use Rattle.ng_group.proofs.CallLemmas.{bounded_calm}
 use Rattle.ng_group.proofs.heap_core.Core.is_ready.Goals as goal
 
 pub overflow_add-first : goal.overflow_add-first
@@ -38,7 +38,7 @@ pub invariant_of-self : goal.invariant_of-self
 invariant_of-self g c =
     let reads = masks_at g.N.Name.facts.start g.M.Mapper.span g.M.Mapper.runs g.M.Mapper.refused c.args.class c.in-Some.first c.load_seat-avail.result c.load_seat-freed.result (ap (λ (x : Inside g.row.N.Denot g.row.M.Denot g.row.P.Denot). x.works) c.self-inside.view_is) c.self.invariant.0 c.requires.class c.in-Some.ensures.first c.load_seat-avail.ensures.view c.load_seat-freed.ensures.view in (
       rests_at g.N.Name.facts.start g.M.Mapper.span g.M.Mapper.runs g.M.Mapper.refused (ap (λ (x : Inside g.row.N.Denot g.row.M.Denot g.row.P.Denot). x.works) c.self-inside.view_is) c.self.invariant.0 reads,
-      bounded_calm g.N.Name.facts g.M.Mapper.refused (ap (λ (x : Inside g.row.N.Denot g.row.M.Denot g.row.P.Denot). x.works) c.self-inside.view_is) _ c.self.invariant.1 refl,
+      subst (λ (x : Inside g.row.N.Denot g.row.M.Denot g.row.P.Denot). IsMostBounded g.N.Name.facts (g.M.Mapper.refused x.works.mapper)) (sym c.self-inside.view_is) c.self.invariant.1,
     )
 
 pub returns-then-mask_of-ne0-clause-ready : goal.returns-then-mask_of-ne0-clause-ready

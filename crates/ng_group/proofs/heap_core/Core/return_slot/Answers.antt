@@ -2,6 +2,7 @@ use Rattle.std.proofs.Common.{ap, ◌∙◌, subst, sym}
 use Rattle.ng_group.specs.Opening.{IsMostBounded}
 use Rattle.ng_group.specs.States.{Resting, State}
 use Rattle.ng_group.specs.declared.heap_core.Core.TheInside.{Inside}
+use Rattle.ng_group.proofs.CallLemmas.{still_bounded}
 use Rattle.ng_group.proofs.HandBackLemmas.{blocks_left, hand_goes, hand_rests, hand_returned, hand_returns, hand_slot, hand_works, slots_left}
 use Rattle.ng_group.proofs.RecursionLemmas.{describes_read}
 use Rattle.ng_group.proofs.heap_core.Core.return_slot.Goals as goal
@@ -33,7 +34,7 @@ invariant_of-self g c =
     let same = ap (λ (x : Inside g.row.N.Denot g.row.M.Denot g.row.P.Denot). x.works) c.self-inside.view_is ∙ c.self.view_is in
     let rest = subst (λ (s : State g.row.M.Denot g.row.P.Denot). Resting g.N.Name.facts.start g.M.Mapper.span g.M.Mapper.runs g.M.Mapper.refused s) c.self.view_is c.self.invariant.0 in (
       hand_rests g.N.Name.facts.start g.M.Mapper.span g.M.Mapper.runs g.M.Mapper.refused same rest c.args.hand.now c.args.slot c.requires.slot c.slot_to_seat.new.seat c.group_of_slot-group.new.seat c.slot_to_seat.ensures.seat c.meta-meta.result c.index-index.result c.meta-meta.ensures.meta c.index-index.ensures.index c.group_of_slot-group.ensures.reads c.group_of_slot-group.ensures.slots c.seat_return.new.self c.seat_return.ensures.working c.seat_return.ensures.hand c.seat_return.ensures.idle c.seat_return.ensures.calm.excuses,
-      subst (IsMostBounded g.N.Name.facts) (sym c.seat_return.ensures.calm.refused)
+      still_bounded g.N.Name.facts _ _ c.seat_return.ensures.calm.refused
           (subst (λ (x : Inside g.row.N.Denot g.row.M.Denot g.row.P.Denot). IsMostBounded g.N.Name.facts (g.M.Mapper.refused x.works.mapper)) (sym c.self-inside.view_is) c.self.invariant.1),
     )
 
