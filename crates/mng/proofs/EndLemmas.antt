@@ -3,7 +3,7 @@ use Rattle.std.proofs.Common.{◌≡◌, ℕ, zero, suc, ◌<◌, ◌≤◌, max
 use Rattle.std.specs.Prelude.{All, sum_by}
 use Rattle.std.proofs.lemmas.Bool.{cases_lt}
 use Rattle.std.proofs.lemmas.List.Elements.{All-head, All-tail}
-use Rattle.ng_frame.specs.Framed.{AreFramed}
+use Rattle.ng_space.specs.Leaving.{AreFramed}
 use Rattle.ng_group.specs.Opening.{IsFreshMapper, IsHandedBack}
 use Rattle.ng_history.specs.Book as book
 use Rattle.ng_mapper.specs.Mapping.{Span}

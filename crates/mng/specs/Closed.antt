@@ -1,6 +1,6 @@
 -- A closed heap: its last words, the books of its hands, and the replies to the ops.
 use Rattle.std.specs.Prelude.{◌≡◌, ℕ, true, false, List, [], ◌∷◌, map, slice_index_or}
-use Rattle.ng_frame.specs.Framed.{AreFramed}
+use Rattle.ng_space.specs.Leaving.{AreFramed}
 use Rattle.ng_history.specs.Book as book
 use Rattle.ng_ledger.specs.Runs.{AreMapped}
 use Rattle.ng_mapper.specs.Mapping.{Span}

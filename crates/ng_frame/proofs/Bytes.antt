@@ -7,7 +7,7 @@ use Rattle.ng_view.specs.Blocks.{Knows}
 use Rattle.ng_view.specs.Frame.{KnowsByte}
 use Rattle.ng_view.specs.Steps.{learnt, wrote}
 use Rattle.ng_view.specs.declared.view.Held.{Held}
-use Rattle.ng_frame.proofs.Keeps.{learns_cell}
+use Rattle.ng_space.proofs.Leaving.{learns_cell}
 
 -- the low half of a word has the bytes of its cell
 pub byte_of-low : (word b : ℕ) → b < 4 → byte_of (word % 4294967296) b ≡ byte_of word b

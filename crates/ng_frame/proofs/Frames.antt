@@ -20,9 +20,11 @@ use Rattle.ng_space.specs.Blocks.{HasFramed, IsReady, OfSlot, offset_in}
 use Rattle.ng_space.specs.Callers.{Caller}
 use Rattle.ng_space.specs.Tokens.{HasSlot, LiesAt, Token}
 use Rattle.ng_space.proofs.Holding.{find-loaded}
-use Rattle.ng_frame.specs.Keeps.{IsWhole, KeepsCells, KeepsOthers, KeepsRest, LiesStill, Stays}
+use Rattle.ng_space.specs.Leaving.{KeepsCells, Leaves, LiesStill, Stays}
+use Rattle.ng_frame.specs.Puts.{IsWhole}
 use Rattle.ng_frame.proofs.Bytes.{zero_kept, zero_made}
-use Rattle.ng_frame.proofs.Keeps.{booked_others, booked_rest, loaded_others, loaded_rest, others_then, rest_then, stays_loaded, stays_stored, stays_then, stored_others, stored_rest}
+use Rattle.ng_space.proofs.Leaving.{stays_loaded, stays_stored, stays_then}
+use Rattle.ng_space.proofs.LeavingFrames.{all_leaves, leaves_loaded, leaves_stored, leaves_then}
 
 -- what holds of the slot that is found
 pub of_found : (hand : Caller) (slot : Token) (h : Held) (P : Held → Type 0) → find slot.meta slot.index hand.view.held ≡ Some h → P h → OfSlot hand slot P
@@ -33,7 +35,7 @@ lies : (hand : Caller) (slot : Token) → HasSlot hand slot → OfSlot hand slot
 lies hand slot has = of_found hand slot has.held (λ h. LiesAt h.place slot) has.found has.place
 
 -- ---- one byte is made 0: its cell is loaded, and stored without it
-module _ (old mid new : Caller) (slot : Token) (has : HasSlot old slot) (at word cell : ℕ) (loads : mid.view ≡ loaded old.view (4 * (at / 4)) word) (stores : new.view ≡ stored mid.view slot.meta slot.index (4 * (at / 4)) cell) where
+module _ (old mid new : Caller) (slot : Token) (has : HasSlot old slot) (at word cell : ℕ) (loads : mid.view ≡ loaded old.view (4 * (at / 4)) word) (stores : new.view ≡ stored mid.view slot.meta slot.index (4 * (at / 4)) cell) (still : HasSlot mid slot) where
   abbrev a : ℕ
   a = 4 * (at / 4)
 
@@ -51,11 +53,10 @@ module _ (old mid new : Caller) (slot : Token) (has : HasSlot old slot) (at word
   pub cleared_own : Stays slot.meta slot.index old.view new.view (KeepsCells (λ b. b ≢ a))
   cleared_own = stays_then (λ b. Unit {0}) (λ b. b ≢ a) (λ b. b ≢ a) slot.meta slot.index old.view mid.view new.view (λ b ne. (tt, ne)) (stays_loaded old.view mid.view a word slot.meta slot.index loads) (stays_stored mid.view new.view slot.meta slot.index a cell stores)
 
-  pub cleared_rest : KeepsRest old.view new.view
-  cleared_rest = rest_then old.view mid.view new.view (loaded_rest old.view mid.view a word loads) (stored_rest mid.view new.view slot.meta slot.index a cell stores)
-
-  pub cleared_others : KeepsOthers slot old.view new.view
-  cleared_others = others_then slot old.view mid.view new.view (loaded_others slot old.view mid.view a word loads) (stored_others slot mid.view new.view a cell stores)
+  pub cleared_leaves : Leaves slot old.view new.view
+  cleared_leaves =
+      leaves_then slot old.view mid.view new.view (all_leaves slot old.view mid.view (leaves_loaded old.view mid.view a word loads))
+      (leaves_stored mid new slot a cell still stores)
 
 -- ---- a store in the slot
 module _ (old new : Caller) (slot : Token) (has : HasSlot old slot) (a x : ℕ) (stores : new.view ≡ stored old.view slot.meta slot.index a x) where
@@ -128,14 +129,6 @@ given_by_cycle hand slot o n p x counter at is fits cycles has = of_found hand s
 
     here : (p % 16 ≡ 0) × (slot_start has.has.held.place + 16 * o ≤ p) × (p < slot_start has.has.held.place + 16 * o + 16)
     here = let start = has.has.place.start in let from = is.start in (omega (arith, at), omega (arith, at), omega (arith, at))
-
-pub given_others : (v w : View) (slot : Token) (p n k x : ℕ) → w ≡ given v slot.meta slot.index p n 16 k x → KeepsOthers slot v w
-given_others v w slot p n k x gives = others_then slot v (stored v slot.meta slot.index (p - 4) x) w (stored_others slot v (stored v slot.meta slot.index (p - 4) x) (p - 4) x refl) (booked_others slot (stored v slot.meta slot.index (p - 4) x) w _ k _ gives)
-
-pub given_rest : (v w : View) (slot : Token) (p n k x : ℕ) → w ≡ given v slot.meta slot.index p n 16 k x → KeepsRest v w
-given_rest v w slot p n k x gives =
-    let mid : View = stored v slot.meta slot.index (p - 4) x in
-    rest_then v mid w (stored_rest v mid slot.meta slot.index (p - 4) x refl) (booked_rest mid w slot.meta slot.index _ k _ gives)
 
 -- the slot of the block lies where it did
 pub given_still : (v two three w : View) (slot : Token) (P Q : ℕ → Type 0) (p n k x : ℕ) → Stays slot.meta slot.index v two (KeepsCells P)

@@ -17,7 +17,7 @@ use Rattle.ng_space.specs.Callers.{Caller}
 use Rattle.ng_space.specs.Placed.{ArePlaced}
 use Rattle.ng_space.proofs.Keeping.{loaded_framed}
 use Rattle.ng_frame.specs.Inspects.{IsBad, TellLength, field_in, mark_at, number_in, tail_of}
-use Rattle.ng_frame.specs.Keeps.{IsWhole}
+use Rattle.ng_frame.specs.Puts.{IsWhole}
 use Rattle.ng_frame.specs.declared.words.Words.{Words}
 use Rattle.ng_frame.proofs.Slots.{stride-most, whole_at}
 

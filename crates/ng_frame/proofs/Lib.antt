@@ -1,8 +1,6 @@
-pub mod Keeps
 pub mod Slots
 pub mod Bytes
 pub mod Frames
 pub mod Trailers
 pub mod Lengths
 pub mod Tokens
-pub mod Framed

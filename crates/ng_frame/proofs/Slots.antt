@@ -22,7 +22,7 @@ use Rattle.ng_space.specs.Blocks.{offset_in}
 use Rattle.ng_space.specs.Callers.{Caller}
 use Rattle.ng_space.specs.Placed.{ArePlaced, LiesIn}
 use Rattle.ng_space.specs.Tokens.{HasSlot, LiesAt, Token}
-use Rattle.ng_frame.specs.Keeps.{IsWhole}
+use Rattle.ng_frame.specs.Puts.{IsWhole}
 
 stride-least : (g : Group) → IsGroupClass (g.tag - 1) g.last g.maplen → 16 ≤ stride g
 unfolding stride

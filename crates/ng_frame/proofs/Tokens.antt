@@ -1,49 +1,16 @@
 -- The slots and blocks that a hand still has where their slots stay.
-use Rattle.std.proofs.Common.{◌≡◌, ◌≢◌, ℕ, ◌*◌, ◌/◌, refl, sym, ap, ◌∙◌, subst, ⊎_elim, inl, inr}
+use Rattle.std.proofs.Common.{◌≡◌, ◌≢◌, sym, ap, ◌∙◌, subst, ⊎_elim, inl, inr}
 use Rattle.std.proofs.lemmas.Bool.{cases_eq}
 use Rattle.std.specs.Prelude.{Option, Some, None}
-use Rattle.ng_rule.proofs.hand.Load.{carries_more}
 use Rattle.ng_terms.specs.Heap.{extent}
 use Rattle.ng_terms.specs.declared.entry.Extent.{Extent}
 use Rattle.ng_view.specs.Lists.{find}
-use Rattle.ng_view.specs.Frame.{Frames, IsFramed, IsShift, IsTrailer, KnowsByte}
 use Rattle.ng_view.specs.declared.view.Held.{Held}
 use Rattle.ng_space.specs.Blocks.{BlockToken, HasBlock, HasFramed}
 use Rattle.ng_space.specs.Callers.{Caller}
 use Rattle.ng_space.specs.Tokens.{HasSlot, LiesAt, Token}
-use Rattle.ng_frame.specs.Keeps.{IsOther, KeepsOthers, Learns, Stays}
-
--- ---- a frame stays known where no cell is forgotten
-module _ (h k : Held) (p n : ℕ) (l : Learns h k) where
-  abbrev y : Held
-  y = record k { place = h.place }
-
-  byte : (a : ℕ) → KnowsByte a 0 h → KnowsByte a 0 y
-  byte a s = (s.0, l.cells (4 * (a / 4)) s.0 tt s.1, s.2)
-
-  trailer : (r : ℕ) → IsTrailer h r → IsTrailer y r
-  trailer r (inl none) = inl none
-  trailer r (inr (inl few)) = inr (inl (few.0, few.1, byte _ few.2))
-  trailer r (inr (inr many)) = inr (inr (many.0, byte _ many.1, l.cells _ r tt many.2, byte _ many.3))
-
-  shift : IsShift h p → IsShift y p
-  shift (inl first) = inl first
-  shift (inr s) = inr (s.0, s.1, s.2, l.cells s.0 s.1 tt s.3, s.4, s.5, s.6)
-
-  frames : (x : ℕ) → Frames h p n x → Frames y p n x
-  frames x f = record {
-    whole = f.whole;
-    from = f.from;
-    roomy = f.roomy;
-    within = f.within;
-    carries = carries_more h y p x refl (λ a z q s. l.cells a z tt s) f.carries;
-    field = f.field;
-    trailer = trailer _ f.trailer;
-    shift = shift f.shift;
-  }
-
-  pub learns_framed : IsFramed h p n → IsFramed k p n
-  learns_framed f = subst (λ (z : Held). IsFramed z p n) (λ i. record k { place = sym l.place i }) (f.0, f.1, f.2, l.cells f.0 f.1 tt f.3, frames f.1 f.4)
+use Rattle.ng_space.specs.Leaving.{IsOther, KeepsOthers, Learns, Stays}
+use Rattle.ng_space.proofs.LeavingFrames.{learns_framed}
 
 -- ---- the slot, block or frame of a token whose slot stays
 module _ (old new : Caller) (number : new.number ≡ old.number) where

@@ -1,7 +1,7 @@
 -- The cells of a trailer are apart, and none is in front of the slot's start.
 use Rattle.std.proofs.Common.{◌≡◌, ◌≢◌, ℕ, ◌+◌, ◌-◌, ◌*◌, ◌/◌, ◌<◌, ◌≤◌, arith}
 use Rattle.ng_space.specs.Tokens.{Token}
-use Rattle.ng_frame.specs.Keeps.{IsWhole}
+use Rattle.ng_frame.specs.Puts.{IsWhole}
 
 -- the first reserved byte isn't in the last cell
 pub cells_apart : (slot : Token) (e r : ℕ) → e ≡ slot.end → IsWhole slot → 5 ≤ r → slot.start + r ≤ slot.end → 4 * ((e - r) / 4) ≢ e - 4

@@ -7,6 +7,7 @@ use Rattle.ng_terms.specs.declared.entry.Entry.TheVariants.{Refused, Take}
 use Rattle.ng_view.specs.Steps.{loaded}
 use Rattle.ng_view.specs.declared.view.View.{View}
 use Rattle.ng_space.specs.Blocks.{BlockToken, Kills}
+use Rattle.ng_space.specs.Callers.{Caller}
 use Rattle.ng_space.specs.Entries.{Enters}
 use Rattle.ng_frame.specs.declared.damage.Damage.{Damage}
 use Rattle.ng_frame.specs.declared.damage.Damage.TheVariants.{BadReserved, Overrun}
@@ -61,9 +62,9 @@ number_of BadReserved = 12
 number_of Overrun = 13
 
 -- the entry of a free of the block at an address: it is taken, or refused for its damage
-abbrev pub entry_of : {A B : Type 0} → ℕ → Result A (B × Damage) → Entry
-entry_of at (Ok done) = Take at
-entry_of at (Err left) = Refused at (number_of left.1)
+abbrev pub free_entry : {A B : Type 0} → ℕ → Result A (B × Damage) → Entry
+free_entry at (Ok done) = Take at
+free_entry at (Err left) = Refused at (number_of left.1)
 
 -- the words of the frame were loaded, and the cell of the first reserved byte where they aren't bad;
 -- what they tell is the damage that was found
@@ -82,7 +83,7 @@ pub record Takes (before : View) (block : BlockToken) (number : ℕ) (after : Vi
   pub kills : Kills between block number after
 
 -- damage was found, and the refusal was entered
-pub record Refuses (before : View) (block : BlockToken) (found : Damage) (number : ℕ) (after : View) : Type 0 where
+pub record Refuses (before : Caller) (block : BlockToken) (found : Damage) (after : Caller) : Type 0 where
   pub between : View
-  pub inspects : Inspects before block (Some found) between
-  pub enters : Enters between number (Refused block.at (number_of found)) after
+  pub inspects : Inspects before.view block (Some found) between
+  pub enters : Enters between before.number (Refused block.at (number_of found)) after.view

@@ -1,4 +1,2 @@
-pub mod Keeps
 pub mod Puts
 pub mod Inspects
-pub mod Framed

@@ -1,8 +1,7 @@
 ghost use Rattle.std.specs.Prelude.{◌≡◌, None};
 ghost use Rattle.ng_space.specs.Blocks.{HasBlock, HasFramed};
-ghost use Rattle.ng_frame.specs.Framed.{AreFramed};
+ghost use Rattle.ng_space.specs.Leaving.{KeepsBook, LeavesAll};
 ghost use Rattle.ng_frame.specs.Inspects.{Inspects, number_of};
-ghost use Rattle.ng_frame.specs.Keeps.{KeepsAll, KeepsRest};
 
 use crate::words::{byte, read_words};
 use ng_header::{nominal, reserved_of};
@@ -40,12 +39,8 @@ pub fn find_damage<N: Name>(
     ensures framed { HasFramed hand.old block.now → result ≡ None }
 
     // What the hand has stays.
-    ensures kept { KeepsAll hand.old.view hand.new.view }
-    ensures rest { KeepsRest hand.old.view hand.new.view }
-    ensures each { AreFramed hand.old.view → AreFramed hand.new.view }
-    ensures number { hand.new.number ≡ hand.old.number }
-    ensures spare { hand.new.spare ≡ hand.old.spare }
-    ensures entries { hand.new.entries ≡ hand.old.entries }
+    ensures leaves { LeavesAll hand.old.view hand.new.view }
+    ensures book { KeepsBook hand.old hand.new }
 {
     let words = read_words(space, hand, block);
     let gap = block.gap();

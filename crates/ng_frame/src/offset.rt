@@ -3,9 +3,8 @@ ghost use Rattle.std.specs.Prelude.{◌≡◌, ◌+◌, ◌*◌, ◌<◌, ◌≤
 ghost use Rattle.ng_view.specs.Frame.{IsShift, field_of};
 ghost use Rattle.ng_space.specs.Blocks.{OfSlot};
 ghost use Rattle.ng_space.specs.Tokens.{HasSlot};
-ghost use Rattle.ng_frame.specs.Framed.{AreFramed};
-ghost use Rattle.ng_frame.specs.Keeps.{IsWhole, KeepsAll, KeepsCells, KeepsOthers, KeepsRest, Stays};
-ghost use Rattle.ng_frame.specs.Puts.{Cycles, IsNear};
+ghost use Rattle.ng_space.specs.Leaving.{KeepsBook, KeepsCells, Leaves, LeavesAll, Stays};
+ghost use Rattle.ng_frame.specs.Puts.{Cycles, IsNear, IsWhole};
 
 use ng_header::cycle;
 use ng_space::{Hand, Name, Slot, Space};
@@ -28,12 +27,8 @@ pub fn next_offset<N: Name>(
     ensures cycles { Cycles hand.old.view slot.now n counter result hand.new.view }
     ensures near { IsNear slot.now n result }
     ensures slot { HasSlot hand.new slot.now }
-    ensures kept { KeepsAll hand.old.view hand.new.view }
-    ensures rest { KeepsRest hand.old.view hand.new.view }
-    ensures each { AreFramed hand.old.view → AreFramed hand.new.view }
-    ensures number { hand.new.number ≡ hand.old.number }
-    ensures spare { hand.new.spare ≡ hand.old.spare }
-    ensures entries { hand.new.entries ≡ hand.old.entries }
+    ensures leaves { LeavesAll hand.old.view hand.new.view }
+    ensures book { KeepsBook hand.old hand.new }
 {
     let slack = (slot.room() - 4 - n) / 16;
     // A slot ends in the space, and so its cells are there.
@@ -63,12 +58,8 @@ pub(crate) fn store_mark<N: Name>(space: &Space<N>, hand: &mut Hand<N>, slot: &S
     ensures shift { OfSlot hand.new slot.now (λ h. IsShift h (slot.now.start + 16 * offset)) }
     ensures slot { HasSlot hand.new slot.now }
     ensures own { Stays slot.now.meta slot.now.index hand.old.view hand.new.view (KeepsCells (λ a. slot.now.start ≤ a)) }
-    ensures others { KeepsOthers slot.now hand.old.view hand.new.view }
-    ensures rest { KeepsRest hand.old.view hand.new.view }
-    ensures each { AreFramed hand.old.view → AreFramed hand.new.view }
-    ensures number { hand.new.number ≡ hand.old.number }
-    ensures spare { hand.new.spare ≡ hand.old.spare }
-    ensures entries { hand.new.entries ≡ hand.old.entries }
+    ensures leaves { Leaves slot.now hand.old.view hand.new.view }
+    ensures book { KeepsBook hand.old hand.new }
 {
     if offset != 0 {
         let mark = MARK * 256 + (offset as u32) * 65536;

@@ -1,10 +1,9 @@
-ghost use Rattle.std.specs.Prelude.{◌≡◌, ◌≢◌, ◌+◌, ◌*◌, ◌≤◌, ◌++◌, ◌∷◌, []};
+ghost use Rattle.std.specs.Prelude.{◌≡◌, ◌≢◌, ◌≤◌};
 ghost use Rattle.ng_terms.specs.declared.entry.Entry.TheVariants.{Give};
 ghost use Rattle.ng_space.specs.Blocks.{BlockToken, HasBlock, HasFramed, OfSlot, Serves};
 ghost use Rattle.ng_space.specs.Tokens.{HasSlot};
-ghost use Rattle.ng_frame.specs.Framed.{AreFramed};
-ghost use Rattle.ng_frame.specs.Keeps.{KeepsOthers, KeepsRest, LiesStill, Stays};
-ghost use Rattle.ng_frame.specs.Puts.{IsNear};
+ghost use Rattle.ng_space.specs.Leaving.{Entered, Leaves, LiesStill, Stays};
+ghost use Rattle.ng_frame.specs.Puts.{IsNear, put_at};
 
 use crate::offset::store_mark;
 use crate::trailer::store_trailer;
@@ -25,18 +24,12 @@ pub fn put<N: Name>(
     requires slot { HasSlot hand.old slot }
     requires serves { OfSlot hand.old slot (Serves n 16) }
     requires near { IsNear slot n offset }
-    ensures block { result ≡ record { slot = slot; at = slot.start + 16 * offset; len = n; align = 16 } }
+    ensures block { result ≡ put_at slot n offset }
     ensures framed { HasFramed hand.new result }
     ensures apart { (other : BlockToken) → HasBlock hand.old other → other.at ≢ result.at }
     ensures still { Stays slot.meta slot.index hand.old.view hand.new.view LiesStill }
-    ensures entries { hand.new.entries ≡ hand.old.entries ++ Give n 16 result.at ∷ [] }
-
-    // What the hand has besides.
-    ensures others { KeepsOthers slot hand.old.view hand.new.view }
-    ensures rest { KeepsRest hand.old.view hand.new.view }
-    ensures each { AreFramed hand.old.view → AreFramed hand.new.view }
-    ensures spare { hand.new.spare + 1 ≡ hand.old.spare }
-    ensures number { hand.new.number ≡ hand.old.number }
+    ensures entered { Entered hand.old hand.new (Give n 16 result.at) }
+    ensures leaves { Leaves slot hand.old.view hand.new.view }
 {
     let at = slot.start() + 16 * offset;
     let reserved = slot.end() - at - n;

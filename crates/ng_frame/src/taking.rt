@@ -1,16 +1,15 @@
-ghost use Rattle.std.specs.Prelude.{◌≡◌, ◌+◌, ◌≤◌, ◌++◌, ◌∷◌, [], IfErr, IfOk, IsOk};
+ghost use Rattle.std.specs.Prelude.{◌≡◌, ◌≤◌, IfErr, IfOk, IsOk};
 ghost use Rattle.ng_space.specs.Blocks.{HasBlock, HasFramed};
 ghost use Rattle.ng_space.specs.Tokens.{HasSlot};
-ghost use Rattle.ng_frame.specs.Framed.{AreFramed};
-ghost use Rattle.ng_frame.specs.Inspects.{Refuses, Takes, entry_of};
-ghost use Rattle.ng_frame.specs.Keeps.{KeepsAll, KeepsOthers, KeepsRest};
+ghost use Rattle.ng_space.specs.Leaving.{Entered, Leaves, LeavesAll};
+ghost use Rattle.ng_frame.specs.Inspects.{Refuses, Takes, free_entry};
 
 use crate::damage::{Damage, find_damage};
 use ng_space::{Block, Hand, Name, Slot, Space};
 use ng_terms::Entry;
 
-/// Takes a block out of its slot, which stays in the hand. A block whose frame is damaged comes back
-/// with the damage, and nothing is stored. Either is entered.
+/// Takes a block out of its slot, which stays in the hand. A block whose frame is damaged comes
+/// back with the damage, and nothing is stored. Either is entered.
 pub fn take_out<N: Name>(
     space: &Space<N>,
     hand: &mut Hand<N>,
@@ -26,18 +25,12 @@ pub fn take_out<N: Name>(
     ensures framed { HasFramed hand.old block → IsOk result }
 
     ensures block { IfErr result (λ left. left.0 ≡ block) }
-    ensures cause { IfErr result (λ left. Refuses hand.old.view block left.1 hand.old.number hand.new.view) }
+    ensures cause { IfErr result (λ left. Refuses hand.old block left.1 hand.new) }
     ensures still { IfErr result (λ left. HasBlock hand.new left.0) }
-    ensures kept { IfErr result (λ left. KeepsAll hand.old.view hand.new.view) }
+    ensures kept { IfErr result (λ left. LeavesAll hand.old.view hand.new.view) }
 
-    ensures entries { hand.new.entries ≡ hand.old.entries ++ entry_of block.at result ∷ [] }
-    ensures spare { hand.new.spare + 1 ≡ hand.old.spare }
-
-    // What the hand has besides.
-    ensures others { KeepsOthers block.slot hand.old.view hand.new.view }
-    ensures rest { KeepsRest hand.old.view hand.new.view }
-    ensures each { AreFramed hand.old.view → AreFramed hand.new.view }
-    ensures number { hand.new.number ≡ hand.old.number }
+    ensures entered { Entered hand.old hand.new (free_entry block.at result) }
+    ensures leaves { Leaves block.slot hand.old.view hand.new.view }
 {
     match find_damage(space, hand, &block) {
         Some(found) => {

@@ -4,8 +4,8 @@ ghost use Rattle.ng_header.specs.Bytes.{byte_of};
 ghost use Rattle.ng_view.specs.Frame.{IsTrailer, KnowsByte};
 ghost use Rattle.ng_space.specs.Blocks.{OfSlot};
 ghost use Rattle.ng_space.specs.Tokens.{HasSlot};
-ghost use Rattle.ng_frame.specs.Framed.{AreFramed};
-ghost use Rattle.ng_frame.specs.Keeps.{IsWhole, KeepsCells, KeepsOthers, KeepsRest, Stays};
+ghost use Rattle.ng_space.specs.Leaving.{KeepsBook, KeepsCells, Leaves, Stays};
+ghost use Rattle.ng_frame.specs.Puts.{IsWhole};
 
 use ng_space::{Hand, Name, Slot, Space};
 
@@ -23,12 +23,8 @@ pub(crate) fn store_trailer<N: Name>(
     ensures trailer { OfSlot hand.new slot.now (λ h. IsTrailer h reserved) }
     ensures slot { HasSlot hand.new slot.now }
     ensures own { Stays slot.now.meta slot.now.index hand.old.view hand.new.view (KeepsCells (λ a. a < slot.now.start)) }
-    ensures others { KeepsOthers slot.now hand.old.view hand.new.view }
-    ensures rest { KeepsRest hand.old.view hand.new.view }
-    ensures each { AreFramed hand.old.view → AreFramed hand.new.view }
-    ensures number { hand.new.number ≡ hand.old.number }
-    ensures spare { hand.new.spare ≡ hand.old.spare }
-    ensures entries { hand.new.entries ≡ hand.old.entries }
+    ensures leaves { Leaves slot.now hand.old.view hand.new.view }
+    ensures book { KeepsBook hand.old hand.new }
 {
     if reserved == 0 {
         return;
@@ -51,12 +47,8 @@ fn clear_byte<N: Name>(space: &Space<N>, hand: &mut Hand<N>, slot: &Slot<N>, at:
     ensures zeros { (y : ℕ) → OfSlot hand.old slot.now (KnowsByte y 0) → OfSlot hand.new slot.now (KnowsByte y 0) }
     ensures slot { HasSlot hand.new slot.now }
     ensures own { Stays slot.now.meta slot.now.index hand.old.view hand.new.view (KeepsCells (λ a. a ≢ 4 * (at / 4))) }
-    ensures others { KeepsOthers slot.now hand.old.view hand.new.view }
-    ensures rest { KeepsRest hand.old.view hand.new.view }
-    ensures each { AreFramed hand.old.view → AreFramed hand.new.view }
-    ensures number { hand.new.number ≡ hand.old.number }
-    ensures spare { hand.new.spare ≡ hand.old.spare }
-    ensures entries { hand.new.entries ≡ hand.old.entries }
+    ensures leaves { Leaves slot.now hand.old.view hand.new.view }
+    ensures book { KeepsBook hand.old hand.new }
 {
     // A slot ends in the space, and so its cells are there.
     let _end = slot.end();

@@ -3,8 +3,7 @@ ghost use Rattle.std.specs.Prelude.{◌≡◌, ◌%◌, ◌<◌};
 ghost use Rattle.ng_header.specs.Bytes.{byte_of};
 ghost use Rattle.ng_space.specs.Blocks.{HasBlock, HasFramed};
 ghost use Rattle.ng_frame.specs.Inspects.{TellLength, looked};
-ghost use Rattle.ng_frame.specs.Framed.{AreFramed};
-ghost use Rattle.ng_frame.specs.Keeps.{KeepsAll, KeepsRest};
+ghost use Rattle.ng_space.specs.Leaving.{KeepsBook, LeavesAll};
 
 use ng_space::{Block, Hand, Name, Space};
 
@@ -22,12 +21,8 @@ pub(crate) fn read_words<N: Name>(space: &Space<N>, hand: &mut Hand<N>, block: &
     ensures view { hand.new.view ≡ looked hand.old.view block.now result }
     ensures whole { block.now.slot.end % 16 ≡ 12 }
     ensures tells { HasFramed hand.old block.now → TellLength block.now result }
-    ensures kept { KeepsAll hand.old.view hand.new.view }
-    ensures rest { KeepsRest hand.old.view hand.new.view }
-    ensures each { AreFramed hand.old.view → AreFramed hand.new.view }
-    ensures number { hand.new.number ≡ hand.old.number }
-    ensures spare { hand.new.spare ≡ hand.old.spare }
-    ensures entries { hand.new.entries ≡ hand.old.entries }
+    ensures leaves { LeavesAll hand.old.view hand.new.view }
+    ensures book { KeepsBook hand.old hand.new }
 {
     let gap = block.gap();
     let at = block.at();

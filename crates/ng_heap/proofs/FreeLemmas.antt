@@ -1,10 +1,8 @@
 -- What a push of a hand's slot leaves of its view.
 use Rattle.std.proofs.Common.{◌≡◌, ℕ, zero, suc, ◌+◌, Bool, List, [], ◌∷◌, refl, sym, ap, ◌∙◌, subst}
 use Rattle.std.proofs.lemmas.List.{append-nil}
-use Rattle.ng_frame.specs.Framed.{AreFramed}
-use Rattle.ng_frame.specs.Keeps.{KeepsAll, KeepsOthers, KeepsRest}
-use Rattle.ng_frame.proofs.Framed.{held_each, loaded_each}
-use Rattle.ng_frame.proofs.Keeps.{all_itself, all_others, all_then, held_all, loaded_all, loaded_rest, others_then, rest_itself, rest_then}
+use Rattle.ng_space.specs.Leaving.{Leaves, LeavesAll}
+use Rattle.ng_space.proofs.LeavingFrames.{all_leaves, leaves_all_then, leaves_held, leaves_itself, leaves_loaded, leaves_then}
 use Rattle.ng_mask.specs.Pushes.{Answers, HasPushCause, LastLoads, Loads, Loses, LosesOnce, Pushed, Sets}
 use Rattle.ng_mask.specs.declared.outcome.Needs.{Needs}
 use Rattle.ng_mask.specs.declared.outcome.Needs.TheVariants as needs
@@ -25,103 +23,67 @@ use Rattle.ng_heap.specs.declared.freeing.Unlocked.{Unlocked}
 use Rattle.ng_heap.specs.declared.freeing.Unlocked.TheVariants as unlocked
 use Rattle.ng_heap.proofs.StayLemmas.{gone_each, gone_others, pushed_rest}
 
--- every slot stays and none has come, and each block stays framed
-record Keeps (v w : View) : Type 0 where
-  pub all : KeepsAll v w
-  pub rest : KeepsRest v w
-  pub each : AreFramed v → AreFramed w
-
--- so it is of every slot but one
-pub record KeepsBut (slot : Token) (v w : View) : Type 0 where
-  pub others : KeepsOthers slot v w
-  pub rest : KeepsRest v w
-  pub each : AreFramed v → AreFramed w
-
-keeps_then : (v u w : View) → Keeps v u → Keeps u w → Keeps v w
-keeps_then v u w one two = record {
-  all = all_then v u w one.all two.all;
-  rest = rest_then v u w one.rest two.rest;
-  each = λ framed. two.each (one.each framed);
-}
-
-pub but_then : (slot : Token) (v u w : View) → KeepsBut slot v u → KeepsBut slot u w → KeepsBut slot v w
-but_then slot v u w one two = record {
-  others = others_then slot v u w one.others two.others;
-  rest = rest_then v u w one.rest two.rest;
-  each = λ framed. two.each (one.each framed);
-}
-
-but_of : (slot : Token) (v w : View) → Keeps v w → KeepsBut slot v w
-but_of slot v w keeps = record { others = all_others slot v w keeps.all; rest = keeps.rest; each = keeps.each }
-
 -- ---- the parts of a push
-load_keeps : (v w : View) (a x : ℕ) → w ≡ loaded v a x → Keeps v w
-load_keeps v w a x is = record { all = loaded_all v w a x is; rest = loaded_rest v w a x is; each = loaded_each v w a x is }
+read_leaves : (v w : View) (a x : ℕ) → w ≡ read v a x → LeavesAll v w
+read_leaves v w a x is = leaves_held v w (ap (λ (u : View). u.held) is) (record {
+  excuses = ap (λ (u : View). u.excuses) is;
+  sent = ap (λ (u : View). u.sent) is;
+  taken = ap (λ (u : View). u.taken) is;
+  more = (a, x) ∷ [];
+  readings = ap (λ (u : View). u.readings) is;
+})
 
-read_keeps : (v w : View) (a x : ℕ) → w ≡ read v a x → Keeps v w
-read_keeps v w a x is = record {
-  all = held_all v w (ap (λ (u : View). u.held) is);
-  rest = record {
-    excuses = ap (λ (u : View). u.excuses) is;
-    sent = ap (λ (u : View). u.sent) is;
-    taken = ap (λ (u : View). u.taken) is;
-    more = (a, x) ∷ [];
-    readings = ap (λ (u : View). u.readings) is;
-  };
-  each = held_each v w (ap (λ (u : View). u.held) is);
-}
-
-loads_keeps : (s : Pushed) (freed avail : ℕ) (v w : View) → Loads s freed avail v w → Keeps v w
-loads_keeps s freed avail v w loads =
+loads_leave : (s : Pushed) (freed avail : ℕ) (v w : View) → Loads s freed avail v w → LeavesAll v w
+loads_leave s freed avail v w loads =
     let u : View = loaded v (s.meta + 28) loads.first in
-    keeps_then v u w (load_keeps v u (s.meta + 28) loads.first refl) (load_keeps u w (s.meta + 24) loads.second loads.view)
+    leaves_all_then v u w (leaves_loaded v u (s.meta + 28) loads.first refl) (leaves_loaded u w (s.meta + 24) loads.second loads.view)
 
-lost_keeps : (s : Pushed) (v w : View) → LosesOnce s v w → Keeps v w
-lost_keeps s v w lost =
-    keeps_then v lost.between w (loads_keeps s lost.freed lost.avail v lost.between lost.loads)
-    (read_keeps lost.between w (s.meta + 28) lost.found lost.view)
+lost_leaves : (s : Pushed) (v w : View) → LosesOnce s v w → LeavesAll v w
+lost_leaves s v w lost =
+    leaves_all_then v lost.between w (loads_leave s lost.freed lost.avail v lost.between lost.loads)
+    (read_leaves lost.between w (s.meta + 28) lost.found lost.view)
 
-loses_keeps : (s : Pushed) (n : ℕ) (v w : View) → Loses s n v w → Keeps v w
-loses_keeps s zero v w same =
-    subst (λ (u : View). Keeps v u) same (record { all = all_itself v; rest = rest_itself v; each = λ framed. framed })
-loses_keeps s (suc n) v w (u, before, last) = keeps_then v u w (loses_keeps s n v u before) (lost_keeps s u w last)
+loses_leave : (s : Pushed) (n : ℕ) (v w : View) → Loses s n v w → LeavesAll v w
+loses_leave s zero v w same =
+    subst (λ (u : View). LeavesAll v u) same (leaves_itself v)
+loses_leave s (suc n) v w (u, before, last) = leaves_all_then v u w (loses_leave s n v u before) (lost_leaves s u w last)
 
-last_keeps : (s : Pushed) (freed avail : ℕ) (v w : View) → LastLoads s freed avail v w → Keeps v w
-last_keeps s freed avail v w last =
-    keeps_then v last.between w (loses_keeps s last.lost v last.between last.loses) (loads_keeps s freed avail last.between w last.loads)
+last_leaves : (s : Pushed) (freed avail : ℕ) (v w : View) → LastLoads s freed avail v w → LeavesAll v w
+last_leaves s freed avail v w last =
+    leaves_all_then v last.between w (loses_leave s last.lost v last.between last.loses) (loads_leave s freed avail last.between w last.loads)
 
 -- ---- the slot goes
-pub pushed_keeps : (slot : Token) (v w : View) → w ≡ pushed v slot.meta slot.index → KeepsBut slot v w
-pushed_keeps slot v w is = record {
+pub pushed_leaves : (slot : Token) (v w : View) → w ≡ pushed v slot.meta slot.index → Leaves slot v w
+pushed_leaves slot v w is = record {
   others = gone_others slot v w (ap (λ (u : View). u.held) is);
   rest = pushed_rest v w slot.meta slot.index is;
   each = gone_each slot v w (ap (λ (u : View). u.held) is);
 }
 
-set_keeps : (slot : Token) (last : ℕ) (v w : View) → Sets (record { meta = slot.meta; index = slot.index; last = last }) v w → KeepsBut slot v w
-set_keeps slot last v w sets =
+set_leaves : (slot : Token) (last : ℕ) (v w : View) → Sets (record { meta = slot.meta; index = slot.index; last = last }) v w → Leaves slot v w
+set_leaves slot last v w sets =
     let u : View = sets.between in
     let p : View = pushed u slot.meta slot.index in
-    let came = last_keeps (record { meta = slot.meta; index = slot.index; last = last }) sets.freed sets.avail v u sets.loads in
-    but_then slot v u w (but_of slot v u came)
-    (but_then slot u p w (pushed_keeps slot u p refl) (but_of slot p w (read_keeps p w (slot.meta + 28) sets.freed sets.view)))
+    let came = last_leaves (record { meta = slot.meta; index = slot.index; last = last }) sets.freed sets.avail v u sets.loads in
+    leaves_then slot v u w (all_leaves slot v u came)
+    (leaves_then slot u p w (pushed_leaves slot u p refl) (all_leaves slot p w (read_leaves p w (slot.meta + 28) sets.freed sets.view)))
 
 -- ---- the whole push
-answers_keep : {X : Type 0} (slot : Token) (last : ℕ) (v w : View) (answer : Push X)
-    → Answers (record { meta = slot.meta; index = slot.index; last = last }) answer v w → KeepsBut slot v w
-answers_keep slot last v w Done sets = set_keeps slot last v w sets
-answers_keep slot last v w (Left token needs.First) none =
-    but_of slot v w (last_keeps (record { meta = slot.meta; index = slot.index; last = last }) 0 none.avail v w none.loads)
-answers_keep slot last v w (Left token (needs.Last freed avail)) full =
-    but_of slot v w (last_keeps (record { meta = slot.meta; index = slot.index; last = last }) freed avail v w full.loads)
-answers_keep slot last v w (Left token needs.Lost) lost =
-    but_of slot v w (loses_keeps (record { meta = slot.meta; index = slot.index; last = last }) 32 v w lost)
+answers_leave : {X : Type 0} (slot : Token) (last : ℕ) (v w : View) (answer : Push X)
+    → Answers (record { meta = slot.meta; index = slot.index; last = last }) answer v w → Leaves slot v w
+answers_leave slot last v w Done sets = set_leaves slot last v w sets
+answers_leave slot last v w (Left token needs.First) none =
+    all_leaves slot v w (last_leaves (record { meta = slot.meta; index = slot.index; last = last }) 0 none.avail v w none.loads)
+answers_leave slot last v w (Left token (needs.Last freed avail)) full =
+    all_leaves slot v w (last_leaves (record { meta = slot.meta; index = slot.index; last = last }) freed avail v w full.loads)
+answers_leave slot last v w (Left token needs.Lost) lost =
+    all_leaves slot v w (loses_leave (record { meta = slot.meta; index = slot.index; last = last }) 32 v w lost)
 
-pub push_keeps : {X : Type 0} (slot : Token) (v w : View) (answer : Push X) → HasPushCause v slot.meta slot.index answer w → KeepsBut slot v w
-push_keeps slot v w answer cause =
+pub push_leaves : {X : Type 0} (slot : Token) (v w : View) (answer : Push X) → HasPushCause v slot.meta slot.index answer w → Leaves slot v w
+push_leaves slot v w answer cause =
     let u : View = loaded v (slot.meta + 32) cause.flags in
-    but_then slot v u w (but_of slot v u (load_keeps v u (slot.meta + 32) cause.flags refl))
-    (answers_keep slot cause.last u w answer cause.answers)
+    leaves_then slot v u w (all_leaves slot v u (leaves_loaded v u (slot.meta + 32) cause.flags refl))
+    (answers_leave slot cause.last u w answer cause.answers)
 
 -- ---- the answer of a free
 -- the slot that was left

@@ -1,5 +1,4 @@
 pub mod FreeLemmas
-pub mod KeepLemmas
 pub mod PutLemmas
 pub mod SendLemmas
 pub mod SlotLemmas

@@ -4,7 +4,8 @@ use Rattle.ng_policy.specs.declared.ask.Ask.{Ask}
 use Rattle.ng_view.specs.declared.view.Held.{Held}
 use Rattle.ng_view.specs.declared.view.Place.{Place}
 use Rattle.ng_view.specs.declared.view.View.{View}
-use Rattle.ng_frame.specs.Keeps.{KeepsAll, KeepsOthers, KeepsRest, Learns, LiesStill, Stays}
+use Rattle.ng_space.specs.Leaving.{Learns, Leaves, LeavesAll, LiesStill, Stays}
+use Rattle.ng_space.proofs.LeavingFrames.{all_leaves, leaves_then}
 use Rattle.ng_frame.specs.Puts.{Cycles, IsNear}
 use Rattle.ng_frame.proofs.Frames.{given_by_cycle}
 use Rattle.ng_space.specs.Blocks.{BlockToken, HasFramed, OfSlot, Serves}
@@ -12,16 +13,18 @@ use Rattle.ng_space.specs.Callers.{Caller}
 use Rattle.ng_space.specs.Tokens.{HasSlot, Token}
 use Rattle.ng_group.specs.Hands.{GainsSlot}
 use Rattle.ng_group.specs.States.{State}
-use Rattle.ng_heap.specs.Causes.{BuildsFor, HasClass, IsGivenNow}
+use Rattle.ng_heap.specs.Causes.{BuildsFor, HasClass}
+use Rattle.ng_heap.specs.Making.{IsGivenNow}
+use Rattle.ng_heap.proofs.SlotLemmas.{gained_leaves}
 
 -- ---- the slot lies where it did
 pub lies_then : (m i : ℕ) (v u w : View) → Stays m i v u Learns → Stays m i u w LiesStill → Stays m i v w LiesStill
 lies_then m i v u w one two h found = let k = one h found in let l = two k.0 k.1 in (l.0, l.1, l.2 ∙ k.2.place)
 
-pub still_serves : (old new : Caller) (slot : Token) (n : ℕ) → HasSlot old slot → KeepsAll old.view new.view
+pub still_serves : (old new : Caller) (slot : Token) (n : ℕ) → HasSlot old slot → LeavesAll old.view new.view
     → OfSlot old slot (Serves n 16) → OfSlot new slot (Serves n 16)
-still_serves old new slot n has kept serves h found =
-    let k = kept.slots slot.meta slot.index has.held has.found in
+still_serves old new slot n has leaves serves h found =
+    let k = leaves.all.slots slot.meta slot.index has.held has.found in
     let q : k.0 ≡ h = cc in
     subst (Serves n 16) q (subst (λ (p : Place). Serves n 16 (record k.0 { place = p })) (sym k.2.place) (serves has.held has.found))
 
@@ -46,15 +49,19 @@ put_builds counts before core n mid after slot other same has stays builds =
 -- ---- the word that was found gives the block's place
 pub given_now : (before came found : View) (after : Caller) (slot : Token) (n counter o : ℕ) (block : BlockToken)
     → block ≡ record { slot = slot; at = slot.start + 16 * o; len = n; align = 16 } → GainsSlot slot.meta slot.index before came
-    → Cycles came slot n counter o found → IsNear slot n o → KeepsOthers slot found after.view → KeepsRest found after.view
-    → HasFramed after block → IsGivenNow before block counter after
-given_now before came found after slot n counter o block is gains cycles near others rest framed =
+    → Cycles came slot n counter o found → IsNear slot n o → Leaves slot found after.view → HasFramed after block
+    → IsGivenNow before block counter after
+given_now before came found after slot n counter o block is gains cycles near leaves framed =
     subst (λ (b : BlockToken). IsGivenNow before b counter after) (sym is) (record {
       came = came;
       gains = gains;
       word = cycles.word;
-      others = subst (λ (v : View). KeepsOthers slot v after.view) cycles.view others;
-      rest = subst (λ (v : View). KeepsRest v after.view) cycles.view rest;
+      leaves = subst (λ (v : View). Leaves slot v after.view) cycles.view leaves;
       given = given_by_cycle after slot o n (slot.start + 16 * o) (cycles.word % 4294967296) counter refl near.whole
           (let within = near.within in omega (arith, within)) cycles.offset_is (subst (HasFramed after) is framed);
     })
+
+-- ---- what the hand has besides
+pub put_leaves : (slot : Token) (v u w x : View) → GainsSlot slot.meta slot.index v u → LeavesAll u w → Leaves slot w x → Leaves slot v x
+put_leaves slot v u w x gains found put =
+    leaves_then slot v u x (gained_leaves slot v u gains) (leaves_then slot u w x (all_leaves slot u w found) put)

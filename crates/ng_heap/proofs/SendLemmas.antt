@@ -2,10 +2,9 @@
 use Rattle.std.proofs.Common.{◌≡◌, ◌≢◌, ℕ, ◌+◌, ◌≤◌, cond, true, false, true≢false, ◌∷◌, ◌++◌, sym, ap, ◌∙◌, subst, ⊎_elim, inl, inr, arith}
 use Rattle.std.proofs.lemmas.Bool.{cases_eq}
 use Rattle.std.specs.Prelude.{Some}
-use Rattle.ng_frame.specs.Framed.{AreFramed}
-use Rattle.ng_frame.specs.Keeps.{IsOther, KeepsOthers}
-use Rattle.ng_frame.proofs.Framed.{known_frame, loaded_each}
-use Rattle.ng_frame.proofs.Keeps.{learns_itself, loaded_others, not_at, others_then}
+use Rattle.ng_space.specs.Leaving.{AreFramed, IsOther, KeepsOthers}
+use Rattle.ng_space.proofs.LeavingFrames.{known_frame, loaded_each}
+use Rattle.ng_space.proofs.Leaving.{learns_itself, loaded_others, not_at, others_then}
 use Rattle.ng_rule.proofs.geometry.Lists.{count_of-zero, find_among, is_at-true, total_by-among}
 use Rattle.ng_view.specs.Lists.{Among, count_of, find, is_at, total_by}
 use Rattle.ng_view.specs.Steps.{loaded, taken_in}

@@ -1,7 +1,8 @@
 -- A slot for a block, or the excuse of a refused map call, comes into a hand.
-use Rattle.std.proofs.Common.{◌≡◌, ◌≢◌, ℕ, ◌+◌, ◌-◌, ◌*◌, ◌<◌, ◌≤◌, cond, Bool, true, false, List, [], ◌∷◌, Ok, Err, refl, sym, ap, ◌∙◌, subst, ⊎_elim, inl, inr, max, arith}
+use Rattle.std.proofs.Common.{◌≡◌, ◌≢◌, ℕ, ◌+◌, ◌-◌, ◌*◌, ◌<◌, ◌≤◌, eqb, eq-eqb, cond, Bool, true, false, List, [], ◌∷◌, ◌++◌, Ok, Err, refl, sym, ap, ◌∙◌, subst, ⊎_elim, inl, inr, max, arith}
 use Rattle.std.specs.Prelude.{IfErr, IfOk, OnErr, OnOk, Result, Some}
 use Rattle.std.proofs.lemmas.Bool.{cases_eq}
+use Rattle.std.proofs.lemmas.List.{append_assoc}
 use Rattle.ng_class.specs.Class.{IsAllowedClass, units_of}
 use Rattle.ng_class.proofs.Classes.{allowed_least, units_of_next}
 use Rattle.ng_mapper.specs.declared.refusals.Refusals.{Refusals}
@@ -10,17 +11,17 @@ use Rattle.ng_terms.specs.Causes.{Rose}
 use Rattle.ng_terms.specs.declared.refusal.AllocRefusal.TheVariants.{NoMemory}
 use Rattle.ng_rule.proofs.geometry.Lists.{is_at-here}
 use Rattle.ng_view.specs.Lists.{Among, find, is_at}
-use Rattle.ng_view.specs.Steps.{in_motion}
+use Rattle.ng_view.specs.Notes.{excuse_of_call}
+use Rattle.ng_view.specs.Steps.{in_motion, without_one}
 use Rattle.ng_view.specs.declared.view.Held.{Held}
 use Rattle.ng_view.specs.declared.view.View.{View}
-use Rattle.ng_frame.specs.Framed.{AreFramed, HasFrame}
-use Rattle.ng_frame.specs.Keeps.{IsOther, KeepsAll, KeepsOthers, KeepsRest, Learns}
-use Rattle.ng_frame.proofs.Framed.{free_frame, learns_frame}
-use Rattle.ng_frame.proofs.Keeps.{not_at}
+use Rattle.ng_space.specs.Leaving.{AreFramed, HasFrame, IsOther, KeepsAll, KeepsOthers, KeepsRest, Learns, Leaves, LeavesAll}
+use Rattle.ng_space.proofs.LeavingFrames.{free_frame, held_each, learns_frame}
+use Rattle.ng_space.proofs.Leaving.{all_then, held_all, not_at}
 use Rattle.ng_frame.proofs.Tokens.{live_apart}
 use Rattle.ng_space.specs.Blocks.{BlockToken, HasBlock, OfSlot, Serves}
 use Rattle.ng_space.specs.Callers.{Caller}
-use Rattle.ng_space.specs.Passed.{ExcuseToken}
+use Rattle.ng_space.specs.Passed.{EntersNoMemory, ExcuseToken}
 use Rattle.ng_space.specs.Tokens.{HasSlot, Token}
 use Rattle.ng_group.specs.Asking.{BuildsWanted, LeavesHeap, RefusedWanted}
 use Rattle.ng_group.specs.ClassFor.{IsClassFor, IsLooked}
@@ -29,18 +30,11 @@ use Rattle.ng_group.specs.Lone.{BuildsLone}
 use Rattle.ng_group.specs.States.{State}
 use Rattle.ng_group.specs.Steps.{GoesOn}
 use Rattle.ng_heap.specs.Causes.{BuildsFor, HasClass, HasRefusalCause, Looks, threshold}
-use Rattle.ng_heap.specs.Keeps.{IsFresh, KeepsFrames}
+use Rattle.ng_heap.specs.Keeps.{IsFresh}
 
 -- a slot, or an excuse
 abbrev pub Answer : Type 0
 Answer = Result Token ExcuseToken
-
--- it came to the hand
-abbrev pub GainsOk : View → View → Answer → Type 0
-GainsOk v w answer = IfOk answer (λ slot. GainsSlot slot.meta slot.index v w)
-
-abbrev pub GainsErr : View → View → Answer → Type 0
-GainsErr v w answer = IfErr answer (λ excuse. GainsExcuse excuse.number v w)
 
 -- the hand's blocks stay
 abbrev pub BlocksStay : Caller → Caller → Type 0
@@ -131,26 +125,9 @@ gained_rest slot v w gains =
       readings = gains.learns.came.readings;
     }
 
--- ---- whatever was answered
-pub answered_others : (v w : View) (answer : Answer) → GainsOk v w answer → IfOk answer (λ slot. KeepsOthers slot v w)
-answered_others v w (Ok slot) gains = gained_others slot v w gains
-answered_others v w (Err excuse) none = tt
-
-pub answered_all : (v w : View) (answer : Answer) → GainsErr v w answer → IfErr answer (λ excuse. KeepsAll v w)
-answered_all v w (Ok slot) none = tt
-answered_all v w (Err excuse) gains = same_all v w gains.learns.slots
-
-pub answered_rest : (v w : View) (answer : Answer) → GainsOk v w answer → OnOk answer (KeepsRest v w)
-answered_rest v w (Ok slot) gains = gained_rest slot v w gains
-answered_rest v w (Err excuse) none = tt
-
-answered_each : (v w : View) (answer : Answer) → GainsOk v w answer → GainsErr v w answer → AreFramed v → AreFramed w
-answered_each v w (Ok slot) gains none = gained_each slot v w gains
-answered_each v w (Err excuse) none gains = same_each v.held w.held gains.learns.slots
-
-pub answered_frames : (before after : Caller) (answer : Answer) → GainsOk before.view after.view answer → GainsErr before.view after.view answer
-    → after.number ≡ before.number → KeepsFrames before after
-answered_frames before after answer ok err number = record { number = number; each = answered_each before.view after.view answer ok err }
+pub gained_leaves : (slot : Token) (v w : View) → GainsSlot slot.meta slot.index v w → Leaves slot v w
+gained_leaves slot v w gains =
+    record { others = gained_others slot v w gains; rest = gained_rest slot v w gains; each = gained_each slot v w gains }
 
 -- ---- the slot is apart from each that was there
 abbrev pub IsApartFrom : Caller → Token → Type 0
@@ -256,3 +233,29 @@ answered_cause {M = M} {P = P} gives refused before looked after n class (Err ex
     wanted : RefusedWanted (gives before.rules) looked after class n (refused after.mapper).last
     wanted = subst (λ (r : P). RefusedWanted (gives r) looked after class n (refused after.mapper).last)
         (looked_rules before looked looks.only) cause
+
+-- the excuse of a refused map call came, and went with the entry of the request
+refused_rest : (v u w : View) (number n excuse : ℕ) → GainsExcuse excuse v u → EntersNoMemory u number n excuse w → KeepsRest v w
+refused_rest v u w number n excuse gains enters =
+    let is = gains.learns.view in
+    let here : eqb excuse excuse ≡ true = eq-eqb excuse excuse refl in record {
+      excuses =
+          ap (λ (x : View). x.excuses) enters.view
+          ∙ ap (λ (x : View). without_one excuse x.excuses) is
+          ∙ ap (λ b. cond b v.excuses (excuse_of_call excuse ∷ without_one excuse v.excuses)) here;
+      sent = ap (λ (x : View). x.sent) enters.view ∙ ap (λ (x : View). x.sent) is;
+      taken = ap (λ (x : View). x.taken) enters.view ∙ ap (λ (x : View). x.taken) is;
+      more = gains.learns.came.words ++ (0, enters.found) ∷ [];
+      readings =
+          ap (λ (x : View). x.readings) enters.view
+          ∙ ap (λ (r : List (ℕ × ℕ)). r ++ (0, enters.found) ∷ []) gains.learns.came.readings
+          ∙ append_assoc v.readings gains.learns.came.words ((0, enters.found) ∷ []);
+    }
+
+pub refused_leaves : (v u w : View) (number n excuse : ℕ) → GainsExcuse excuse v u → EntersNoMemory u number n excuse w → LeavesAll v w
+refused_leaves v u w number n excuse gains enters =
+    let held : w.held ≡ u.held = ap (λ (x : View). x.held) enters.view in record {
+      all = all_then v u w (same_all v u gains.learns.slots) (held_all u w held);
+      rest = refused_rest v u w number n excuse gains enters;
+      each = λ framed. held_each u w held (same_each v.held u.held gains.learns.slots framed);
+    }

@@ -3,9 +3,8 @@ use Rattle.std.proofs.Common.{◌≡◌, ◌≢◌, ◌⊎◌, ℕ, ◌+◌, con
 use Rattle.std.proofs.lemmas.Bool.{cases_eq}
 use Rattle.std.proofs.lemmas.List.{append-nil}
 use Rattle.std.specs.Prelude.{Option, Some, None}
-use Rattle.ng_frame.specs.Framed.{AreFramed}
-use Rattle.ng_frame.specs.Keeps.{KeepsOthers, KeepsRest, KeepsSlots}
-use Rattle.ng_frame.proofs.Keeps.{learns_itself, not_at}
+use Rattle.ng_space.specs.Leaving.{AreFramed, KeepsOthers, KeepsRest, KeepsSlots}
+use Rattle.ng_space.proofs.Leaving.{learns_itself, not_at}
 use Rattle.ng_rule.proofs.geometry.Lists.{among_without}
 use Rattle.ng_terms.specs.declared.entry.Extent.{Extent}
 use Rattle.ng_view.specs.Lists.{Among, find, is_at, without}

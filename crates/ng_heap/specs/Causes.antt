@@ -1,9 +1,7 @@
 -- Which group serves a request, and why one is refused.
-use Rattle.std.specs.Prelude.{◌≡◌, ◌⊎◌, ℕ, ◌+◌, ◌-◌, ◌%◌, ◌<◌, ◌≤◌, max}
-use Rattle.ng_frame.specs.Keeps.{KeepsOthers, KeepsRest}
+use Rattle.std.specs.Prelude.{◌≡◌, ◌⊎◌, ℕ, ◌+◌, ◌<◌, ◌≤◌, max}
 use Rattle.ng_group.specs.Asking.{BuildsWanted, LeavesHeap, RefusedWanted}
 use Rattle.ng_group.specs.ClassFor.{IsClassFor, IsLooked}
-use Rattle.ng_group.specs.Hands.{GainsSlot}
 use Rattle.ng_group.specs.Lone.{BuildsLone, IsLoneRefused}
 use Rattle.ng_group.specs.States.{State}
 use Rattle.ng_mapper.specs.declared.refusals.Refusals.{Refusals}
@@ -12,12 +10,9 @@ use Rattle.ng_terms.specs.Accounts.{pages_for}
 use Rattle.ng_terms.specs.Causes.{Rose}
 use Rattle.ng_terms.specs.declared.refusal.AllocRefusal.{AllocRefusal}
 use Rattle.ng_terms.specs.declared.refusal.AllocRefusal.TheVariants.{NoMemory, TooLarge}
-use Rattle.ng_space.specs.Blocks.{BlockToken, OfSlot}
+use Rattle.ng_space.specs.Blocks.{OfSlot}
 use Rattle.ng_space.specs.Callers.{Caller}
 use Rattle.ng_space.specs.Tokens.{Token}
-use Rattle.ng_view.specs.Frame.{IsGiven}
-use Rattle.ng_view.specs.Steps.{loaded}
-use Rattle.ng_view.specs.declared.view.View.{View}
 
 -- from so many bytes on a block is a group by itself
 abbrev pub threshold : ℕ
@@ -53,13 +48,3 @@ HasRefusalCause counts refused before after n (NoMemory excuse) = (excuse ≡ (r
     × ((refused after.mapper).most ≤ max (refused before.mapper).most (max 512 (pages_for n)))
     × IsRunRefused counts before after n (refused after.mapper).last
 HasRefusalCause counts refused before after n TooLarge = after ≡ before
-
--- the slot came; then the word in front of its start was loaded, and by the low half that was found the block is where it
--- belongs; all that changed since is what was read, the book, and the slot itself
-pub record IsGivenNow (before : View) (block : BlockToken) (counter : ℕ) (after : Caller) : Type 0 where
-  pub came : View
-  pub gains : GainsSlot block.slot.meta block.slot.index before came
-  pub word : ℕ
-  pub others : KeepsOthers block.slot (loaded came (block.slot.start - 4) word) after.view
-  pub rest : KeepsRest (loaded came (block.slot.start - 4) word) after.view
-  pub given : OfSlot after block.slot (λ h. IsGiven h block.at block.len 16 (word % 4294967296) counter)

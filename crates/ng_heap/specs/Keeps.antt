@@ -1,6 +1,6 @@
 -- What a call leaves of a hand's view.
 use Rattle.std.specs.Prelude.{◌≡◌}
-use Rattle.ng_frame.specs.Framed.{AreFramed}
+use Rattle.ng_space.specs.Leaving.{AreFramed}
 use Rattle.ng_space.specs.Blocks.{BlockToken, HasBlock}
 use Rattle.ng_space.specs.Callers.{Caller}
 use Rattle.ng_space.specs.Tokens.{HasSlot, Token}

@@ -1,4 +1,5 @@
 pub mod Causes
 pub mod Freeing
 pub mod Keeps
+pub mod Making
 pub mod Tests

@@ -1,12 +1,11 @@
 // Blocks that are taken back.
-ghost use Rattle.std.specs.Prelude.{◌≡◌, ◌+◌, ◌++◌, ◌≤◌, ◌∷◌, [], IfErr, IfOk, IsOk, OnOk};
-ghost use Rattle.ng_frame.specs.Inspects.{Refuses, entry_of};
+ghost use Rattle.std.specs.Prelude.{◌≡◌, ◌≤◌, IfErr, IfOk, IsOk, OnOk};
+ghost use Rattle.ng_frame.specs.Inspects.{Refuses, free_entry};
+ghost use Rattle.ng_space.specs.Leaving.{Entered, KeepsBook, Leaves, LeavesAll};
 ghost use Rattle.ng_mapper.specs.Mapping.{NotesNone};
-ghost use Rattle.ng_frame.specs.Keeps.{KeepsAll, KeepsOthers, KeepsRest};
 ghost use Rattle.ng_group.specs.Returning.{ReturnsOfHand};
 ghost use Rattle.ng_group.specs.Steps.{GoesOn};
 ghost use Rattle.ng_heap.specs.Freeing.{FreesIn, FreesUnlocked, OnLeft};
-ghost use Rattle.ng_heap.specs.Keeps.{KeepsFrames};
 ghost use Rattle.ng_space.specs.Blocks.{HasBlock, HasFramed};
 ghost use Rattle.ng_space.specs.Tokens.{HasSlot};
 ghost use Rattle.ng_view.specs.Steps.{pushed};
@@ -43,15 +42,12 @@ impl<N: Name> Heap<N> {
         ensures has { IfOk result (λ freed. OnLeft freed (HasSlot hand.new)) }
 
         ensures block { IfErr result (λ left. left.0 ≡ block) }
-        ensures cause { IfErr result (λ left. Refuses hand.old.view block left.1 hand.old.number hand.new.view) }
+        ensures cause { IfErr result (λ left. Refuses hand.old block left.1 hand.new) }
         ensures still { IfErr result (λ left. HasBlock hand.new left.0) }
-        ensures kept { IfErr result (λ left. KeepsAll hand.old.view hand.new.view) }
+        ensures kept { IfErr result (λ left. LeavesAll hand.old.view hand.new.view) }
 
-        ensures entries { hand.new.entries ≡ hand.old.entries ++ entry_of block.at result ∷ [] }
-        ensures spare { hand.new.spare + 1 ≡ hand.old.spare }
-        ensures others { KeepsOthers block.slot hand.old.view hand.new.view }
-        ensures rest { KeepsRest hand.old.view hand.new.view }
-        ensures frames { KeepsFrames hand.old hand.new }
+        ensures entered { Entered hand.old hand.new (free_entry block.at result) }
+        ensures leaves { Leaves block.slot hand.old.view hand.new.view }
     {
         let slot = take_out(&self.space, hand, block)?;
         match push(&self.space, hand, slot) {
@@ -73,17 +69,14 @@ impl<N: Name> Heap<N> {
         ensures framed { HasFramed hand.old block → IsOk result }
 
         ensures block { IfErr result (λ left. left.0 ≡ block) }
-        ensures cause { IfErr result (λ left. Refuses hand.old.view block left.1 hand.old.number hand.new.view) }
+        ensures cause { IfErr result (λ left. Refuses hand.old block left.1 hand.new) }
         ensures still { IfErr result (λ left. HasBlock hand.new left.0) }
-        ensures kept { IfErr result (λ left. KeepsAll hand.old.view hand.new.view) }
+        ensures kept { IfErr result (λ left. LeavesAll hand.old.view hand.new.view) }
         ensures unchanged { IfErr result (λ left. core.new ≡ core.old) }
         ensures frees { OnOk result (FreesIn (P.keep_gives core.old.rules) M.runs hand.old block core.old core.new hand.new.view) }
 
-        ensures entries { hand.new.entries ≡ hand.old.entries ++ entry_of block.at result ∷ [] }
-        ensures spare { hand.new.spare + 1 ≡ hand.old.spare }
-        ensures others { KeepsOthers block.slot hand.old.view hand.new.view }
-        ensures rest { KeepsRest hand.old.view hand.new.view }
-        ensures frames { KeepsFrames hand.old hand.new }
+        ensures entered { Entered hand.old hand.new (free_entry block.at result) }
+        ensures leaves { Leaves block.slot hand.old.view hand.new.view }
         ensures calm { NotesNone (M.refused core.old.mapper) (M.refused core.new.mapper) }
         ensures on { GoesOn core.old.seat core.new.seat }
         ensures rules { core.new.rules ≡ core.old.rules }
@@ -105,10 +98,8 @@ impl<N: Name> Heap<N> {
         requires slot { HasSlot hand.old slot }
         ensures returns { ReturnsOfHand (P.keep_gives core.old.rules) M.runs core.old core.new slot.meta slot.index }
         ensures view { hand.new.view ≡ pushed hand.old.view slot.meta slot.index }
-        ensures others { KeepsOthers slot hand.old.view hand.new.view }
-        ensures frames { KeepsFrames hand.old hand.new }
-        ensures spare { hand.new.spare ≡ hand.old.spare }
-        ensures entries { hand.new.entries ≡ hand.old.entries }
+        ensures leaves { Leaves slot hand.old.view hand.new.view }
+        ensures book { KeepsBook hand.old hand.new }
         ensures calm { NotesNone (M.refused core.old.mapper) (M.refused core.new.mapper) }
         ensures on { GoesOn core.old.seat core.new.seat }
         ensures rules { core.new.rules ≡ core.old.rules }

@@ -37,6 +37,7 @@ impl<N: Name> Heap<N> {
         ensures seat { IfOk result (λ made. made.1.seat ≡ opened N.facts.start N.facts.hands) }
         ensures mapper { IfOk result (λ made. made.1.mapper ≡ mapper) }
         ensures rules { IfOk result (λ made. made.1.rules ≡ rules) }
+        ensures counter { IfOk result (λ made. made.1.counter ≡ 0) }
         ensures handed_back { IfErr result (λ error. error.0 ≡ mapper) }
     {
         match Space::open(alloc, blank) {

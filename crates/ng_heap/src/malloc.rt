@@ -1,17 +1,17 @@
 // Blocks that are given.
-ghost use Rattle.std.specs.Prelude.{◌≡◌, ◌≢◌, ◌+◌, ◌++◌, ◌<◌, ◌≤◌, ◌↔◌, ◌∷◌, [], Err, IfErr, IfOk, OnOk};
+ghost use Rattle.std.specs.Prelude.{◌≡◌, ◌+◌, ◌<◌, ◌≤◌, ◌↔◌, Err, IfErr, IfOk, OnOk};
+ghost use Rattle.ng_space.specs.Leaving.{Entered, KeepsBook, KeepsSlots, Leaves, LeavesAll};
 ghost use Rattle.ng_mapper.specs.Mapping.{NotesNone};
-ghost use Rattle.ng_frame.specs.Keeps.{KeepsAll, KeepsOthers, KeepsRest, KeepsSlots};
 ghost use Rattle.ng_group.specs.Hands.{GainsExcuse, GainsSlot};
 ghost use Rattle.ng_group.specs.Steps.{GoesOn};
-ghost use Rattle.ng_heap.specs.Causes.{BuildsFor, HasRefusalCause, IsGivenNow};
-ghost use Rattle.ng_heap.specs.Keeps.{IsFresh, KeepsFrames};
-ghost use Rattle.ng_space.specs.Blocks.{BlockToken, HasBlock, HasFramed, OfSlot, Serves};
+ghost use Rattle.ng_heap.specs.Causes.{BuildsFor, HasRefusalCause};
+ghost use Rattle.ng_heap.specs.Keeps.{IsFresh};
+ghost use Rattle.ng_heap.specs.Making.{IsGivenNow, IsMade, malloc_entry};
+ghost use Rattle.ng_space.specs.Blocks.{OfSlot, Serves};
 ghost use Rattle.ng_space.specs.Passed.{EntersNoMemory, HasExcuse};
 ghost use Rattle.ng_space.specs.Tokens.{HasSlot};
 ghost use Rattle.ng_terms.specs.Heap.{IsTooLarge, large};
 ghost use Rattle.ng_terms.specs.Histories.{refusal_entry};
-ghost use Rattle.ng_terms.specs.declared.entry.Entry.TheVariants.{Give};
 ghost use Rattle.ng_terms.specs.declared.refusal.AllocRefusal.TheVariants as refusal;
 
 use crate::heap::Heap;
@@ -35,30 +35,21 @@ impl<N: Name> Heap<N> {
         requires spare { 1 ≤ hand.old.spare }
         requires cap { n < large → n ≤ N.facts.start.cap }
 
-        // The block is framed and alone in its slot, which is of the class that was chosen for it, and what was built
-        // was wanted for it.
-        ensures framed { IfOk result (HasFramed hand.new) }
-        ensures len { IfOk result (λ block. block.len ≡ n) }
-        ensures align { IfOk result (λ block. block.align ≡ 16) }
-        ensures fresh { IfOk result (λ block. IsFresh hand.old block.slot) }
-        ensures apart { IfOk result (λ block. (other : BlockToken) → HasBlock hand.old other → other.at ≢ block.at) }
+        // The block's slot is of the class that was chosen for it, and what was built was wanted.
+        ensures made { IfOk result (λ block. IsMade n hand.old block hand.new) }
         ensures builds { IfOk result (λ block. BuildsFor (P.count_gives core.old.rules) core.old core.new n hand.new block.slot) }
         ensures given { IfOk result (λ block. IsGivenNow hand.old.view block core.new.counter hand.new) }
-        ensures entered { IfOk result (λ block. hand.new.entries ≡ hand.old.entries ++ Give n 16 block.at ∷ []) }
         ensures calm { OnOk result
             (NotesNone (M.refused core.old.mapper) (M.refused core.new.mapper)) }
 
         ensures large { (result ≡ Err refusal.TooLarge) ↔ IsTooLarge 1 n 16 }
         ensures cause { IfErr result (HasRefusalCause (P.count_gives core.old.rules) M.refused core.old core.new n) }
-        ensures refused { IfErr result (λ why. hand.new.entries ≡ hand.old.entries ++ refusal_entry n why ∷ []) }
 
-        // What the hand and the core have besides: each slot and block, and what was known of its cells.
-        ensures others { IfOk result (λ block. KeepsOthers block.slot hand.old.view hand.new.view) }
-        ensures kept { IfErr result (λ why. KeepsAll hand.old.view hand.new.view) }
+        // What the hand and the core have besides.
+        ensures entered { Entered hand.old hand.new (malloc_entry n result) }
+        ensures leaves { IfOk result (λ block. Leaves block.slot hand.old.view hand.new.view) }
+        ensures kept { IfErr result (λ why. LeavesAll hand.old.view hand.new.view) }
         ensures slots { KeepsSlots hand.old.view hand.new.view }
-        ensures rest { KeepsRest hand.old.view hand.new.view }
-        ensures frames { KeepsFrames hand.old hand.new }
-        ensures spare { hand.new.spare + 1 ≡ hand.old.spare }
         ensures on { GoesOn core.old.seat core.new.seat }
         ensures rules { core.new.rules ≡ core.old.rules }
     {
@@ -102,12 +93,7 @@ impl<N: Name> Heap<N> {
         ensures cause { IfErr result (λ excuse. HasRefusalCause (P.count_gives core.old.rules) M.refused core.old core.new n (refusal.NoMemory excuse.number)) }
         ensures excuse { IfErr result (HasExcuse hand.new) }
         ensures excused { IfErr result (λ excuse. GainsExcuse excuse.number hand.old.view hand.new.view) }
-        ensures rest { OnOk result (KeepsRest hand.old.view hand.new.view) }
-        ensures others { IfOk result (λ slot. KeepsOthers slot hand.old.view hand.new.view) }
-        ensures kept { IfErr result (λ excuse. KeepsAll hand.old.view hand.new.view) }
-        ensures frames { KeepsFrames hand.old hand.new }
-        ensures spare { hand.new.spare ≡ hand.old.spare }
-        ensures entries { hand.new.entries ≡ hand.old.entries }
+        ensures book { KeepsBook hand.old hand.new }
         ensures on { GoesOn core.old.seat core.new.seat }
         ensures rules { core.new.rules ≡ core.old.rules }
     {
@@ -123,10 +109,8 @@ impl<N: Name> Heap<N> {
         requires spare { 1 ≤ hand.old.spare }
         requires excuse { HasExcuse hand.old excuse }
         ensures why { result ≡ refusal.NoMemory excuse.number }
-        ensures entries { hand.new.entries ≡ hand.old.entries ++ refusal_entry n result ∷ [] }
+        ensures entered { Entered hand.old hand.new (refusal_entry n result) }
         ensures view { EntersNoMemory hand.old.view hand.old.number n excuse.number hand.new.view }
-        ensures number { hand.new.number ≡ hand.old.number }
-        ensures spare { hand.new.spare + 1 ≡ hand.old.spare }
     {
         let number = excuse.number();
         self.space.enter_no_memory(hand, n, excuse);

@@ -1,6 +1,6 @@
 // Blocks that go from hand to hand.
 ghost use Rattle.std.specs.Prelude.{◌≡◌, ◌+◌};
-ghost use Rattle.ng_frame.specs.Keeps.{KeepsOthers, KeepsSlots};
+ghost use Rattle.ng_space.specs.Leaving.{KeepsBook, KeepsOthers, KeepsSlots};
 ghost use Rattle.ng_heap.specs.Keeps.{IsFresh, KeepsFrames};
 ghost use Rattle.ng_space.specs.Blocks.{HasFramed};
 ghost use Rattle.ng_space.specs.Parcels.{taken_by};
@@ -18,8 +18,7 @@ impl<N: Name> Heap<N> {
         ensures excuses { hand.new.view.excuses ≡ hand.old.view.excuses }
         ensures sent { hand.new.view.sent ≡ hand.old.view.sent + 1 }
         ensures taken { hand.new.view.taken ≡ hand.old.view.taken }
-        ensures spare { hand.new.spare ≡ hand.old.spare }
-        ensures entries { hand.new.entries ≡ hand.old.entries }
+        ensures book { KeepsBook hand.old hand.new }
     {
         self.space.split_parcel(hand, block)
     }
@@ -35,8 +34,7 @@ impl<N: Name> Heap<N> {
         ensures excuses { hand.new.view.excuses ≡ hand.old.view.excuses }
         ensures sent { hand.new.view.sent ≡ hand.old.view.sent }
         ensures taken { hand.new.view.taken ≡ hand.old.view.taken + 1 }
-        ensures spare { hand.new.spare ≡ hand.old.spare }
-        ensures entries { hand.new.entries ≡ hand.old.entries }
+        ensures book { KeepsBook hand.old hand.new }
     {
         let block = self.space.join_parcel(hand, parcel);
         // A load tells that no slot is twice in the hand.

@@ -6,7 +6,7 @@ use Rattle.std.proofs.lemmas.Bool.{cases_eq}
 use Rattle.std.proofs.lemmas.List.{get_or-map, get_or-set_other, get_or-set_same, length-map, length_push}
 use Rattle.std.proofs.lemmas.List.Elements.{All-get_or, All-set}
 use Rattle.std.proofs.lemmas.List.Sums.{sum_by-cons, sum_by-set}
-use Rattle.ng_frame.specs.Framed.{AreFramed}
+use Rattle.ng_space.specs.Leaving.{AreFramed}
 use Rattle.ng_heap.specs.Keeps.{KeepsFrames}
 use Rattle.ng_plan.specs.Sound.{op_of_log}
 use Rattle.ng_space.specs.Blocks.{BlockToken}

@@ -2,9 +2,8 @@
 use Rattle.std.proofs.lemmas.Grind.{common_steps}
 use Rattle.std.proofs.Common.{append_assoc, cond, eqb, false, ◌≡◌, ◌≢◌, ℕ, List, [], ◌∷◌, ◌++◌, Option, Some, None, IfSome}
 use Rattle.std.proofs.Common.{arith, ap, sym, ◌∙◌, subst, ⊎_elim, inl, inr}
-use Rattle.ng_frame.specs.Framed.{AreFramed}
-use Rattle.ng_frame.specs.Keeps.{KeepsOthers, KeepsRest, KeepsSlots}
-use Rattle.ng_frame.proofs.Keeps.{rest_itself}
+use Rattle.ng_space.specs.Leaving.{AreFramed, KeepsOthers, KeepsRest, KeepsSlots}
+use Rattle.ng_space.proofs.Leaving.{rest_itself}
 use Rattle.ng_frame.proofs.Tokens.{framed_kept, framed_stays}
 use Rattle.ng_group.specs.Hands.{IsApart}
 use Rattle.ng_heap.specs.Keeps.{IsFresh, KeepsFrames}
@@ -25,9 +24,9 @@ IsApartFrom-fresh before None other fresh had = tt
 IsApartFrom-fresh before (Some block) other fresh had = fresh.blocks other had.has
 
 -- a framed block stays so where its slot does
-pub HasFramed-kept : (before after : Caller) → KeepsFrames before after → KeepsSlots before.view after.view
+pub HasFramed-kept : (before after : Caller) → after.number ≡ before.number → KeepsSlots before.view after.view
     → (block : BlockToken) → HasFramed before block → HasFramed after block
-HasFramed-kept before after frames slots block = framed_stays before after frames.number block (slots block.slot.meta block.slot.index)
+HasFramed-kept before after number slots block = framed_stays before after number block (slots block.slot.meta block.slot.index)
 
 pub HasFramed-beside : (before after : Caller) (slot : Token) → KeepsFrames before after → KeepsOthers slot before.view after.view
     → (other : BlockToken) → IsApart other.slot slot → HasFramed before other → HasFramed after other

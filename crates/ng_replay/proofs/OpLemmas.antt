@@ -3,7 +3,7 @@ use Rattle.std.proofs.Common.{◌≡◌, ℕ, zero, suc, ◌-◌, ◌≤◌, Lis
 use Rattle.std.specs.Prelude.{IfSome}
 use Rattle.std.proofs.Math.ListN.{set}
 use Rattle.std.proofs.lemmas.List.{append-nil, map-append, map-set, take_all}
-use Rattle.ng_frame.specs.Keeps.{KeepsOthers}
+use Rattle.ng_space.specs.Leaving.{KeepsOthers}
 use Rattle.ng_heap.specs.Keeps.{KeepsFrames}
 use Rattle.ng_space.specs.Blocks.{BlockToken, HasFramed}
 use Rattle.ng_space.specs.Callers.{Caller}

@@ -1,6 +1,6 @@
 -- The hands of a plan's logs: log k, from 0, calls by the hand of the number k + 1.
 use Rattle.std.specs.Prelude.{◌≡◌, ℕ, ◌+◌, ◌*◌, ◌<◌, List, [], All, length, map, slice_index_or}
-use Rattle.ng_frame.specs.Framed.{AreFramed}
+use Rattle.ng_space.specs.Leaving.{AreFramed}
 use Rattle.ng_space.specs.Callers.{Caller, fresh_caller}
 use Rattle.ng_terms.specs.declared.plan.Plan.{Plan}
 use Rattle.ng_terms.specs.declared.reply.Reply.{Reply}

@@ -1,5 +1,5 @@
 ghost use Rattle.std.specs.Prelude.{◌≡◌, ◌+◌, ◌<◌, ◌≤◌, ◌++◌, IfSome};
-ghost use Rattle.ng_frame.specs.Keeps.{KeepsRest, KeepsSlots};
+ghost use Rattle.ng_space.specs.Leaving.{KeepsRest, KeepsSlots};
 ghost use Rattle.ng_heap.specs.Keeps.{IsFresh, KeepsFrames};
 ghost use Rattle.ng_replay.specs.Serving.{at_of, plain};
 ghost use Rattle.ng_space.specs.Blocks.{HasFramed};

@@ -1,5 +1,5 @@
 ghost use Rattle.std.specs.Prelude.{◌≡◌, ◌+◌, ◌<◌, ◌≤◌, ◌++◌, ◌∷◌, [], IfSome, None};
-ghost use Rattle.ng_frame.specs.Keeps.{KeepsOthers, KeepsRest, KeepsSlots};
+ghost use Rattle.ng_space.specs.Leaving.{KeepsOthers, KeepsRest, KeepsSlots};
 ghost use Rattle.ng_group.specs.Hands.{IsApart};
 ghost use Rattle.ng_heap.specs.Keeps.{IsFresh, KeepsFrames};
 ghost use Rattle.ng_replay.specs.Serving.{IsApartFrom, at_of, plain};

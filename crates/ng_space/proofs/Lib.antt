@@ -22,3 +22,5 @@ pub mod Apart
 pub mod Granting
 pub mod Sending
 pub mod Keeping
+pub mod Leaving
+pub mod LeavingFrames

@@ -15,3 +15,4 @@ pub mod Passed
 pub mod Blocks
 pub mod Parcels
 pub mod Packed
+pub mod Leaving

@@ -1,7 +1,6 @@
 use Rattle.std.proofs.Common.{ℕ, ◌-◌, ◌/◌, ap, ◌∙◌, arith}
 use Rattle.ng_view.specs.Steps.{loaded}
-use Rattle.ng_frame.proofs.Framed.{loaded_each}
-use Rattle.ng_frame.proofs.Keeps.{loaded_all, loaded_rest}
+use Rattle.ng_space.proofs.LeavingFrames.{leaves_loaded}
 use Rattle.ng_header.specs.Cycle.{cycle_of}
 use Rattle.ng_frame.proofs.Slots.{cycle_of-small, front_is, narrow, whole}
 use Rattle.ng_frame.proofs.offset.next_offset.Goals as goal
@@ -29,11 +28,5 @@ returns-clause-near g c =
           (omega (arith, low, is)) (omega (arith, o, room, fits));
     }
 
-pub returns-clause-kept : goal.returns-clause-kept
-returns-clause-kept g c = loaded_all c.args.hand.now.view c.load.new.hand.view _ c.load.result c.load.ensures.view
-
-pub returns-clause-rest : goal.returns-clause-rest
-returns-clause-rest g c = loaded_rest c.args.hand.now.view c.load.new.hand.view _ c.load.result c.load.ensures.view
-
-pub returns-clause-each : goal.returns-clause-each
-returns-clause-each g c = loaded_each c.args.hand.now.view c.load.new.hand.view _ c.load.result c.load.ensures.view
+pub returns-clause-leaves : goal.returns-clause-leaves
+returns-clause-leaves g c = leaves_loaded c.args.hand.now.view c.load.new.hand.view _ c.load.result c.load.ensures.view

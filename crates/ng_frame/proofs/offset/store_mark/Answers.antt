@@ -1,7 +1,7 @@
 use Rattle.std.proofs.Common.{◌-◌, refl, ap, arith}
-use Rattle.ng_frame.proofs.Framed.{stored_each}
+use Rattle.ng_space.proofs.LeavingFrames.{all_leaves, leaves_itself, leaves_stored}
 use Rattle.ng_frame.proofs.Frames.{marked}
-use Rattle.ng_frame.proofs.Keeps.{stays_stored, stored_others, stored_rest}
+use Rattle.ng_space.proofs.Leaving.{stays_stored}
 use Rattle.ng_frame.proofs.offset.store_mark.Goals as goal
 
 pub returns-then-offset-ne0-clause-shift : goal.returns-then-offset-ne0-clause-shift
@@ -18,11 +18,9 @@ returns-then-offset-ne0-clause-own g c = λ h found. (let k = stays_stored c.arg
   },
 ))
 
-pub returns-then-offset-ne0-clause-others : goal.returns-then-offset-ne0-clause-others
-returns-then-offset-ne0-clause-others g c = stored_others c.args.slot.now c.args.hand.now.view c.store_own.new.hand.view _ _ c.store_own.ensures.view
+pub returns-then-offset-ne0-clause-leaves : goal.returns-then-offset-ne0-clause-leaves
+returns-then-offset-ne0-clause-leaves g c =
+    leaves_stored c.args.hand.now c.store_own.new.hand c.args.slot.now _ _ c.requires.slot c.store_own.ensures.view
 
-pub returns-then-offset-ne0-clause-rest : goal.returns-then-offset-ne0-clause-rest
-returns-then-offset-ne0-clause-rest g c = stored_rest c.args.hand.now.view c.store_own.new.hand.view c.args.slot.now.meta c.args.slot.now.index _ _ c.store_own.ensures.view
-
-pub returns-then-offset-ne0-clause-each : goal.returns-then-offset-ne0-clause-each
-returns-then-offset-ne0-clause-each g c = stored_each c.args.hand.now c.store_own.new.hand c.args.slot.now _ _ c.requires.slot c.store_own.ensures.view
+pub returns-else-offset-ne0-clause-leaves : goal.returns-else-offset-ne0-clause-leaves
+returns-else-offset-ne0-clause-leaves g c = all_leaves c.args.slot.now c.args.hand.now.view c.args.hand.now.view (leaves_itself c.args.hand.now.view)

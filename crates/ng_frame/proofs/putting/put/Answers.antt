@@ -1,10 +1,9 @@
 use Rattle.std.proofs.Common.{◌∙◌, ◌≢◌, ℕ, ◌+◌, ◌-◌, ◌*◌, ◌<◌, ◌≤◌, sym, ap, subst}
 use Rattle.ng_view.specs.Frame.{IsTrailer}
 use Rattle.ng_space.specs.Blocks.{BlockToken, HasFramed, OfSlot}
-use Rattle.ng_frame.specs.Keeps.{KeepsOthers}
-use Rattle.ng_frame.proofs.Framed.{given_each}
-use Rattle.ng_frame.proofs.Frames.{given_others, given_rest, given_still, ready}
-use Rattle.ng_frame.proofs.Keeps.{others_then, rest_then}
+use Rattle.ng_space.specs.Leaving.{Leaves}
+use Rattle.ng_space.proofs.LeavingFrames.{leaves_given, leaves_then}
+use Rattle.ng_frame.proofs.Frames.{given_still, ready}
 use Rattle.ng_frame.proofs.Tokens.{block_kept, live_apart}
 use Rattle.ng_frame.proofs.putting.put.Given.{Over}
 use Rattle.ng_frame.proofs.putting.put.Goals as goal
@@ -24,25 +23,18 @@ returns-clause-still g c =
     c.give.ensures.view
 
 -- what the hand has besides once the frame is stored
-framed_others : (g : Over) (c : goal.After-give g) → KeepsOthers c.args.slot c.args.hand.now.view c.store_trailer.new.hand.view
-framed_others g c = others_then c.args.slot _ _ _ c.store_mark.ensures.others c.store_trailer.ensures.others
+framed_leaves : (g : Over) (c : goal.After-give g) → Leaves c.args.slot c.args.hand.now.view c.store_trailer.new.hand.view
+framed_leaves g c = leaves_then c.args.slot _ _ _ c.store_mark.ensures.leaves c.store_trailer.ensures.leaves
 
-pub returns-clause-others : goal.returns-clause-others
-returns-clause-others g c =
-    others_then c.args.slot _ _ _ (framed_others g c) (given_others c.store_trailer.new.hand.view c.give.new.hand.view c.args.slot _ _ _ _ c.give.ensures.view)
-
-pub returns-clause-rest : goal.returns-clause-rest
-returns-clause-rest g c =
-    rest_then _ _ _ c.store_mark.ensures.rest (rest_then _ _ _ c.store_trailer.ensures.rest (given_rest c.store_trailer.new.hand.view c.give.new.hand.view c.args.slot _ _ _ _ c.give.ensures.view))
-
-pub returns-clause-each : goal.returns-clause-each
-returns-clause-each g c = λ framed.
-    given_each c.store_trailer.new.hand c.give.new.hand c.args.slot _ _ _ _ c.store_trailer.ensures.slot c.give.ensures.view (subst (HasFramed c.give.new.hand) c.give.ensures.block c.give.ensures.has)
-    (c.store_trailer.ensures.each (c.store_mark.ensures.each framed))
+pub returns-clause-leaves : goal.returns-clause-leaves
+returns-clause-leaves g c =
+    leaves_then c.args.slot _ _ _ (framed_leaves g c)
+    (leaves_given c.store_trailer.new.hand c.give.new.hand c.args.slot _ _ _ _ c.store_trailer.ensures.slot c.give.ensures.view
+    (subst (HasFramed c.give.new.hand) c.give.ensures.block c.give.ensures.has))
 
 pub returns-clause-apart : goal.returns-clause-apart
 returns-clause-apart g c = λ other has.
-    let number = c.store_trailer.ensures.number ∙ c.store_mark.ensures.number in
+    let number = c.store_trailer.ensures.book.number ∙ c.store_mark.ensures.book.number in
     let apart = live_apart c.args.hand.now c.args.slot other c.requires.slot has in
-    let still = block_kept c.args.hand.now c.store_trailer.new.hand c.args.slot number (framed_others g c) other apart has in
+    let still = block_kept c.args.hand.now c.store_trailer.new.hand c.args.slot number (framed_leaves g c).others other apart has in
     subst (λ (b : BlockToken). other.at ≢ b.at) (sym c.give.ensures.block) (c.give.ensures.apart other still)

@@ -1,7 +1,7 @@
 use Rattle.std.proofs.Common.{◌≢◌, ℕ, ◌-◌, ◌*◌, ◌/◌, ◌<◌, arith}
-use Rattle.ng_frame.proofs.Framed.{stored_each}
+use Rattle.ng_space.proofs.LeavingFrames.{all_leaves, leaves_itself, leaves_stored, leaves_then}
 use Rattle.ng_frame.proofs.Frames.{knows_still, long_trailer, short_trailer, stored_byte, stored_knows}
-use Rattle.ng_frame.proofs.Keeps.{others_then, rest_then, stays_stored, stays_then, stored_others, stored_rest}
+use Rattle.ng_space.proofs.Leaving.{stays_stored, stays_then}
 use Rattle.ng_frame.proofs.Trailers.{before_first, before_last, cells_apart, fifth_apart}
 use Rattle.ng_frame.proofs.trailer.store_trailer.Goals as goal
 
@@ -27,12 +27,6 @@ returns-then-reserved-ge5-clause-own g c =
     stays_then (λ a. a ≢ 4 * ((e - r) / 4)) (λ a. a < slot.start) (λ a. a < slot.start) slot.meta slot.index c.args.hand.now.view one.view three.view (λ a lt. (before_first slot e r a end c.requires.whole c.requires.within lt, lt)) c.clear_byte.ensures.own
     (stays_then (λ a. a ≢ e - 4) (λ a. a ≢ 4 * ((e - 5) / 4)) (λ a. a < slot.start) slot.meta slot.index one.view two.view three.view (λ a lt. before_last slot e r a end c.requires.whole c.if-reserved-ge5.true c.requires.within lt) (stays_stored one.view two.view slot.meta slot.index (e - 4) r c.store_own.ensures.view) c.clear_byte-then-reserved-ge5.ensures.own)
 
-pub returns-then-reserved-ge5-clause-others : goal.returns-then-reserved-ge5-clause-others
-returns-then-reserved-ge5-clause-others g c =
-    let slot = c.args.slot.now in
-    let one = c.clear_byte.new.hand in let two = c.store_own.new.hand in let three = c.clear_byte-then-reserved-ge5.new.hand in
-    others_then slot c.args.hand.now.view one.view three.view c.clear_byte.ensures.others (others_then slot one.view two.view three.view (stored_others slot one.view two.view (c.end-end.result - 4) c.args.reserved c.store_own.ensures.view) c.clear_byte-then-reserved-ge5.ensures.others)
-
 pub returns-else-reserved-ge5-clause-trailer : goal.returns-else-reserved-ge5-clause-trailer
 returns-else-reserved-ge5-clause-trailer g c =
     short_trailer c.clear_byte.new.hand c.args.slot.now c.args.reserved c.end-end.result c.end-end.ensures.end (let f = c.if-reserved-eq0.false in omega (arith, f)) (let f = c.if-reserved-ge5.false in omega (arith, f)) c.clear_byte.ensures.slot c.clear_byte.ensures.zero
@@ -51,13 +45,13 @@ returns-else-reserved-ge5-clause-own g c =
       },
     ))
 
-pub returns-then-reserved-ge5-clause-rest : goal.returns-then-reserved-ge5-clause-rest
-returns-then-reserved-ge5-clause-rest g c =
+pub returns-then-reserved-ge5-clause-leaves : goal.returns-then-reserved-ge5-clause-leaves
+returns-then-reserved-ge5-clause-leaves g c =
     let slot = c.args.slot.now in
     let one = c.clear_byte.new.hand in let two = c.store_own.new.hand in let three = c.clear_byte-then-reserved-ge5.new.hand in
-    rest_then c.args.hand.now.view one.view three.view c.clear_byte.ensures.rest (rest_then one.view two.view three.view (stored_rest one.view two.view slot.meta slot.index (c.end-end.result - 4) c.args.reserved c.store_own.ensures.view) c.clear_byte-then-reserved-ge5.ensures.rest)
+    leaves_then slot c.args.hand.now.view one.view three.view c.clear_byte.ensures.leaves
+    (leaves_then slot one.view two.view three.view (leaves_stored one two slot _ _ c.clear_byte.ensures.slot c.store_own.ensures.view)
+    c.clear_byte-then-reserved-ge5.ensures.leaves)
 
-pub returns-then-reserved-ge5-clause-each : goal.returns-then-reserved-ge5-clause-each
-returns-then-reserved-ge5-clause-each g c = λ framed.
-    let stored = stored_each c.clear_byte.new.hand c.store_own.new.hand c.args.slot.now _ _ c.clear_byte.ensures.slot c.store_own.ensures.view (c.clear_byte.ensures.each framed) in
-    c.clear_byte-then-reserved-ge5.ensures.each stored
+pub returns-then-reserved-eq0-clause-leaves : goal.returns-then-reserved-eq0-clause-leaves
+returns-then-reserved-eq0-clause-leaves g c = all_leaves c.args.slot.now c.args.hand.now.view c.args.hand.now.view (leaves_itself c.args.hand.now.view)

@@ -1,8 +1,7 @@
 use Rattle.std.proofs.Common.{◌≡◌, ◌+◌, ◌-◌, ap, ◌∙◌, subst, arith}
 use Rattle.ng_view.specs.Steps.{loaded}
 use Rattle.ng_view.specs.Tells.{Tells}
-use Rattle.ng_frame.proofs.Framed.{loaded_each}
-use Rattle.ng_frame.proofs.Keeps.{all_then, loaded_all, loaded_rest, rest_then}
+use Rattle.ng_space.proofs.LeavingFrames.{leaves_all_then, leaves_loaded}
 use Rattle.ng_frame.proofs.Lengths.{block_whole, length_told}
 use Rattle.ng_frame.proofs.words.read_words.Goals as goal
 
@@ -32,18 +31,9 @@ returns-clause-tells g c =
     (subst (λ a. Tells g.N.Name.facts.start c.load-header.new.hand.view (a - 4) c.load-last.result) end two.told)
     (subst (λ a. Tells g.N.Name.facts.start c.load-last.new.hand.view (a - 8) c.load-fifth.result) end three.told)
 
-pub returns-clause-kept : goal.returns-clause-kept
-returns-clause-kept g c =
+pub returns-clause-leaves : goal.returns-clause-leaves
+returns-clause-leaves g c =
     let zero = c.args.hand.now.view in let one = c.load-header.new.hand.view in let two = c.load-last.new.hand.view in let three = c.load-fifth.new.hand.view in
-    all_then zero one three (loaded_all zero one _ c.load-header.result c.load-header.ensures.view) (all_then one two three (loaded_all one two _ c.load-last.result c.load-last.ensures.view) (loaded_all two three _ c.load-fifth.result c.load-fifth.ensures.view))
-
-pub returns-clause-rest : goal.returns-clause-rest
-returns-clause-rest g c =
-    let zero = c.args.hand.now.view in let one = c.load-header.new.hand.view in let two = c.load-last.new.hand.view in let three = c.load-fifth.new.hand.view in
-    rest_then zero one three (loaded_rest zero one _ c.load-header.result c.load-header.ensures.view) (rest_then one two three (loaded_rest one two _ c.load-last.result c.load-last.ensures.view) (loaded_rest two three _ c.load-fifth.result c.load-fifth.ensures.view))
-
-pub returns-clause-each : goal.returns-clause-each
-returns-clause-each g c = λ framed.
-    let zero = c.args.hand.now.view in let one = c.load-header.new.hand.view in let two = c.load-last.new.hand.view in let three = c.load-fifth.new.hand.view in
-    loaded_each two three _ c.load-fifth.result c.load-fifth.ensures.view
-    (loaded_each one two _ c.load-last.result c.load-last.ensures.view (loaded_each zero one _ c.load-header.result c.load-header.ensures.view framed))
+    leaves_all_then zero one three (leaves_loaded zero one _ c.load-header.result c.load-header.ensures.view)
+    (leaves_all_then one two three (leaves_loaded one two _ c.load-last.result c.load-last.ensures.view)
+    (leaves_loaded two three _ c.load-fifth.result c.load-fifth.ensures.view))

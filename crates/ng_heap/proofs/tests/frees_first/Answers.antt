@@ -1,5 +1,5 @@
 use Rattle.std.proofs.Common.{◌≡◌, subst}
-use Rattle.ng_frame.specs.Keeps.{KeepsOthers}
+use Rattle.ng_space.specs.Leaving.{KeepsOthers}
 use Rattle.ng_frame.proofs.Tokens.{block_kept}
 use Rattle.ng_space.specs.Callers.{Caller}
 use Rattle.ng_space.specs.Tokens.{Token}
@@ -15,5 +15,5 @@ returns-clause-others g c = λ other apart has.
     let settled = c.settle_in.ensures in
     let first = c.in-Ok-Left-default-First in
     let is = left_is first.field-0 first.slot first.field-0-1 (λ left. left ≡ slot) first.field-0-is first.ensures.left in
-    let still = block_kept c.args.hand.now mid slot freed.frames.number freed.others other apart has in
-    block_kept mid new slot settled.frames.number (subst (λ (s : Token). KeepsOthers s mid.view new.view) is settled.others) other apart still
+    let still = block_kept c.args.hand.now mid slot freed.entered.number freed.leaves.others other apart has in
+    block_kept mid new slot settled.book.number (subst (λ (s : Token). KeepsOthers s mid.view new.view) is settled.leaves.others) other apart still

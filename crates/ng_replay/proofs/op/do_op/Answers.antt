@@ -6,7 +6,7 @@ use Rattle.ng_replay.proofs.op.do_op.Goals as goal
 
 pub returns-in-Make-clause-others : goal.returns-in-Make-clause-others
 returns-in-Make-clause-others g c =
-    λ other apart f. HasFramed-kept _ _ c.make_anew.ensures.frames c.make_anew.ensures.slots other (subst (λ hand. HasFramed hand other) (sym c.leave.ensures) f)
+    λ other apart f. HasFramed-kept _ _ c.make_anew.ensures.frames.number c.make_anew.ensures.slots other (subst (λ hand. HasFramed hand other) (sym c.leave.ensures) f)
 
 pub returns-in-Make-clause-apart : goal.returns-in-Make-clause-apart
 returns-in-Make-clause-apart g c =
@@ -18,7 +18,7 @@ returns-in-Some-clause-others g c =
     λ other apart f. c.move_from.ensures.others other (subst (λ source. IsApartFrom source other) c.in-Some.is apart) f
 
 pub returns-in-None-clause-others : goal.returns-in-None-clause-others
-returns-in-None-clause-others g c = λ other apart f. HasFramed-kept _ _ c.make-made.ensures.frames c.make-made.ensures.slots other f
+returns-in-None-clause-others g c = λ other apart f. HasFramed-kept _ _ c.make-made.ensures.frames.number c.make-made.ensures.slots other f
 
 pub returns-in-None-clause-apart : goal.returns-in-None-clause-apart
 returns-in-None-clause-apart g c =

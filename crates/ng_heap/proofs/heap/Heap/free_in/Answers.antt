@@ -2,49 +2,44 @@ use Rattle.std.proofs.Common.{◌≡◌, ◌∙◌, sym, ap, subst}
 use Rattle.ng_group.specs.Returning.{ReturnsOfHand}
 use Rattle.ng_group.specs.States.{State}
 use Rattle.ng_group.specs.Steps.{GoesOn}
+use Rattle.ng_frame.specs.Inspects.{free_entry}
+use Rattle.ng_terms.specs.declared.entry.Entry.{Entry}
+use Rattle.ng_terms.specs.declared.entry.Entry.TheVariants.{Take}
 use Rattle.ng_space.specs.Callers.{Caller}
+use Rattle.ng_space.specs.Leaving.{Entered, Leaves}
+use Rattle.ng_space.proofs.LeavingFrames.{entered_then, leaves_then}
 use Rattle.ng_space.specs.Tokens.{Token}
 use Rattle.ng_view.specs.Steps.{pushed}
 use Rattle.ng_view.specs.declared.view.View.{View}
-use Rattle.ng_heap.proofs.FreeLemmas.{KeepsBut, but_then, done_frees, left_frees, left_is, pushed_keeps, stayed_on}
-use Rattle.ng_heap.proofs.heap.Heap.free_in.Given.{Over}
+use Rattle.ng_heap.proofs.FreeLemmas.{done_frees, left_frees, left_is, stayed_on}
 use Rattle.ng_heap.proofs.heap.Heap.free_in.Goals as goal
 use Rattle.ng_heap.proofs.heap.Heap.free_in.Goals.{Joined-branch-2, in-Done, in-Left}
 
-keeps : (g : Over) (c : Joined-branch-2 g) → KeepsBut c.args.block.slot c.args.hand.now.view c.match-branch-2.hand.view
-keeps g c =
+pub returns-clause-leaves : goal.returns-clause-leaves
+returns-clause-leaves g c =
     let slot : Token = c.args.block.slot in
     let old : View = c.args.hand.now.view in
     let mid : View = c.free_unlocked.new.hand.view in
-    let first = c.free_unlocked.ensures in
-    let freed : KeepsBut slot old mid = record { others = first.others; rest = first.rest; each = first.frames.each } in
+    let freed : Leaves slot old mid = c.free_unlocked.ensures.leaves in
     elim c.match-branch-2.branch [
-      | in-Done w ↦ subst (λ (hand : Caller). KeepsBut slot old hand.view) (sym w.hand-is) freed
+      | in-Done w ↦ subst (λ (hand : Caller). Leaves slot old hand.view) (sym w.hand-is) freed
       | in-Left w ↦
           let new : View = w.settle_in.new.hand.view in
           let freed_as = c.in_ok-free_unlocked in
           let is = left_is freed_as.field-0 w.in-Left.slot w.in-Left.field-1 (λ left. left ≡ slot) w.in-Left.is freed_as.ensures.left in
-          let settled = pushed_keeps w.in-Left.slot mid new w.settle_in.ensures.view in
-          let own : KeepsBut slot mid new = subst (λ (s : Token). KeepsBut s mid new) is settled in
-          subst (λ (hand : Caller). KeepsBut slot old hand.view) (sym w.hand-is) (but_then slot old mid new freed own)
+          let own : Leaves slot mid new = subst (λ (s : Token). Leaves s mid new) is w.settle_in.ensures.leaves in
+          subst (λ (hand : Caller). Leaves slot old hand.view) (sym w.hand-is) (leaves_then slot old mid new freed own)
     ]
 
-pub returns-clause-others : goal.returns-clause-others
-returns-clause-others g c = (keeps g c).others
-
-pub returns-clause-rest : goal.returns-clause-rest
-returns-clause-rest g c = (keeps g c).rest
-
-pub returns-clause-frames : goal.returns-clause-frames
-returns-clause-frames g c =
-    let number : c.free_unlocked.new.hand.number ≡ c.args.hand.now.number = c.free_unlocked.ensures.frames.number in
-    record {
-      number = elim c.match-branch-2.branch [
-        | in-Done w ↦ ap (λ (hand : Caller). hand.number) w.hand-is ∙ number
-        | in-Left w ↦ ap (λ (hand : Caller). hand.number) w.hand-is ∙ w.settle_in.ensures.frames.number ∙ number
-      ];
-      each = (keeps g c).each;
-    }
+pub returns-clause-entered : goal.returns-clause-entered
+returns-clause-entered g c =
+    let old : Caller = c.args.hand.now in
+    let entry : Entry = Take c.args.block.at in
+    let freed : Entered old c.free_unlocked.new.hand entry = subst (λ r. Entered old c.free_unlocked.new.hand (free_entry c.args.block.at r)) c.in_ok-free_unlocked.was c.free_unlocked.ensures.entered in
+    elim c.match-branch-2.branch [
+      | in-Done w ↦ subst (λ (hand : Caller). Entered old hand entry) (sym w.hand-is) freed
+      | in-Left w ↦ subst (λ (hand : Caller). Entered old hand entry) (sym w.hand-is) (entered_then freed w.settle_in.ensures.book)
+    ]
 
 pub returns-clause-frees : goal.returns-clause-frees
 returns-clause-frees g c =

@@ -1,7 +1,7 @@
 use Rattle.std.proofs.Common.{◌∙◌}
-use Rattle.ng_frame.specs.Keeps.{KeepsOthers}
+use Rattle.ng_space.specs.Leaving.{KeepsOthers}
 use Rattle.ng_frame.proofs.Tokens.{framed_stays}
-use Rattle.ng_frame.proofs.Keeps.{loaded_all}
+use Rattle.ng_space.proofs.Leaving.{loaded_all}
 use Rattle.ng_heap.specs.Keeps.{IsFresh}
 use Rattle.ng_heap.proofs.SendLemmas.{Receives, came_frames, came_fresh, came_others}
 use Rattle.ng_heap.proofs.StayLemmas.{fresh_slots}

@@ -1,5 +1,5 @@
 use Rattle.ng_group.proofs.WorkingLemmas.{goes_then}
-use Rattle.ng_heap.proofs.SlotLemmas.{answered_all, answered_builds, answered_cause, answered_frames, answered_fresh, answered_lone, answered_others, answered_rest, answered_serves, class_allowed, class_roomy, lone_allowed, looked_on}
+use Rattle.ng_heap.proofs.SlotLemmas.{answered_builds, answered_cause, answered_fresh, answered_lone, answered_serves, class_allowed, class_roomy, lone_allowed, looked_on}
 use Rattle.ng_heap.proofs.heap.Heap.slot_for.Goals as goal
 
 -- ---- a group by itself
@@ -16,23 +16,6 @@ pub returns-then-n-ge-THRESHOLD-clause-fresh : goal.returns-then-n-ge-THRESHOLD-
 returns-then-n-ge-THRESHOLD-clause-fresh g c =
     let alloc = c.alloc_lone.ensures in
     answered_fresh c.args.hand.now c.alloc_lone.new.hand 63 c.args.n c.alloc_lone.result alloc.slot alloc.apart alloc.blocks
-
-pub returns-then-n-ge-THRESHOLD-clause-others : goal.returns-then-n-ge-THRESHOLD-clause-others
-returns-then-n-ge-THRESHOLD-clause-others g c =
-    answered_others c.args.hand.now.view c.alloc_lone.new.hand.view c.alloc_lone.result c.alloc_lone.ensures.gains
-
-pub returns-then-n-ge-THRESHOLD-clause-kept : goal.returns-then-n-ge-THRESHOLD-clause-kept
-returns-then-n-ge-THRESHOLD-clause-kept g c =
-    answered_all c.args.hand.now.view c.alloc_lone.new.hand.view c.alloc_lone.result c.alloc_lone.ensures.excused
-
-pub returns-then-n-ge-THRESHOLD-clause-rest : goal.returns-then-n-ge-THRESHOLD-clause-rest
-returns-then-n-ge-THRESHOLD-clause-rest g c =
-    answered_rest c.args.hand.now.view c.alloc_lone.new.hand.view c.alloc_lone.result c.alloc_lone.ensures.gains
-
-pub returns-then-n-ge-THRESHOLD-clause-frames : goal.returns-then-n-ge-THRESHOLD-clause-frames
-returns-then-n-ge-THRESHOLD-clause-frames g c =
-    let alloc = c.alloc_lone.ensures in
-    answered_frames c.args.hand.now c.alloc_lone.new.hand c.alloc_lone.result alloc.gains alloc.excused alloc.number
 
 pub alloc_slot-requires-clause-bytes : goal.alloc_slot-requires-clause-bytes
 alloc_slot-requires-clause-bytes g c =
@@ -62,23 +45,6 @@ returns-clause-cause g c =
     let class = c.class_for-class.ensures in
     answered_cause g.P.Rules.count_gives g.M.Mapper.refused _ _ _ c.args.n c.class_for-class.result c.alloc_slot.result
     (record { only = class.looked; class_is = class.class }) c.if-n-ge-THRESHOLD.false alloc.number_is alloc.rose alloc.most alloc.cause alloc.leaves
-
-pub returns-clause-others : goal.returns-clause-others
-returns-clause-others g c =
-    answered_others c.args.hand.now.view c.alloc_slot.new.hand.view c.alloc_slot.result c.alloc_slot.ensures.gains
-
-pub returns-clause-kept : goal.returns-clause-kept
-returns-clause-kept g c =
-    answered_all c.args.hand.now.view c.alloc_slot.new.hand.view c.alloc_slot.result c.alloc_slot.ensures.excused
-
-pub returns-clause-rest : goal.returns-clause-rest
-returns-clause-rest g c =
-    answered_rest c.args.hand.now.view c.alloc_slot.new.hand.view c.alloc_slot.result c.alloc_slot.ensures.gains
-
-pub returns-clause-frames : goal.returns-clause-frames
-returns-clause-frames g c =
-    let alloc = c.alloc_slot.ensures in
-    answered_frames c.args.hand.now c.alloc_slot.new.hand c.alloc_slot.result alloc.gains alloc.excused alloc.number
 
 pub returns-clause-on : goal.returns-clause-on
 returns-clause-on g c =

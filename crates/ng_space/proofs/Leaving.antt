@@ -17,7 +17,7 @@ use Rattle.ng_space.specs.Blocks.{BlockToken, Kills}
 use Rattle.ng_space.specs.Entries.{Enters}
 use Rattle.ng_space.specs.Tokens.{Token}
 use Rattle.ng_space.proofs.Holding.{find-loaded}
-use Rattle.ng_frame.specs.Keeps.{CameFrom, IsOther, KeepsAll, KeepsCells, KeepsOthers, KeepsRest, Learns, Stays}
+use Rattle.ng_space.specs.Leaving.{CameFrom, IsOther, KeepsAll, KeepsCells, KeepsOthers, KeepsRest, Learns, Stays}
 
 -- ---- another slot than the one that is edited
 pub not_at : (m i k j : ℕ) (p : Place) → (k ≢ m) ⊎ (j ≢ i) → is_at m i p ≡ true → is_at k j p ≡ false

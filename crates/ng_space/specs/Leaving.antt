@@ -1,11 +1,16 @@
--- What steps on one slot of a hand leave of the view.
-use Rattle.std.specs.Prelude.{◌≡◌, ◌≢◌, ◌⊎◌, ℕ, ◌+◌, ◌≤◌, ◌<◌, ◌%◌, ◌++◌, List, Some}
+-- What a call leaves of a hand.
+use Rattle.std.specs.Prelude.{◌≡◌, ◌≢◌, ◌⊎◌, ℕ, ◌+◌, ◌++◌, List, [], ◌∷◌, Some}
+use Rattle.ng_terms.specs.declared.entry.Entry.{Entry}
+use Rattle.ng_terms.specs.declared.entry.Extent.{Extent}
 use Rattle.ng_view.specs.Blocks.{Knows}
-use Rattle.ng_view.specs.Lists.{find}
+use Rattle.ng_view.specs.Frame.{IsFramed}
+use Rattle.ng_view.specs.Lists.{Among, find}
 use Rattle.ng_view.specs.declared.view.Held.{Held}
 use Rattle.ng_view.specs.declared.view.View.{View}
+use Rattle.ng_space.specs.Callers.{Caller}
 use Rattle.ng_space.specs.Tokens.{Token}
 
+-- ---- slots
 -- the slot lies where it did, with its block, and the cells of P are known as before
 pub record KeepsCells (P : ℕ → Type 0) (h k : Held) : Type 0 where
   pub place : k.place ≡ h.place
@@ -54,10 +59,37 @@ pub record KeepsAll (v w : View) : Type 0 where
   pub slots : KeepsSlots v w
   pub back : (m i : ℕ) → CameFrom m i v w Learns
 
--- the slot begins and ends at cells, and its room ends by the next header cell
-pub record IsWhole (slot : Token) : Type 0 where
-  pub start : slot.start % 16 ≡ 0
-  pub end : slot.end % 16 ≡ 12
-  pub front : 16 ≤ slot.start
-  pub some : slot.start < slot.end
-  pub room : slot.start + slot.room ≤ slot.end + 4
+-- ---- frames
+-- the block of a slot is framed, if there is one
+abbrev pub HasFrame : Held → Type 0
+HasFrame h = (b : Extent) → h.block ≡ Some b → IsFramed h b.at b.len
+
+-- each block of the view is framed
+abbrev pub AreFramed : View → Type 0
+AreFramed v = (h : Held) → Among h v.held → HasFrame h
+
+-- ---- a call
+-- it changed one slot at most: each other is there, no other has come, and each block is framed
+-- where each was
+pub record Leaves (slot : Token) (v w : View) : Type 0 where
+  pub others : KeepsOthers slot v w
+  pub rest : KeepsRest v w
+  pub each : AreFramed v → AreFramed w
+
+-- it changed none
+pub record LeavesAll (v w : View) : Type 0 where
+  pub all : KeepsAll v w
+  pub rest : KeepsRest v w
+  pub each : AreFramed v → AreFramed w
+
+-- the hand's number and its book are as before
+pub record KeepsBook (before after : Caller) : Type 0 where
+  pub number : after.number ≡ before.number
+  pub spare : after.spare ≡ before.spare
+  pub entries : after.entries ≡ before.entries
+
+-- the book has one entry more, which took one of its places
+pub record Entered (before after : Caller) (entry : Entry) : Type 0 where
+  pub number : after.number ≡ before.number
+  pub spare : after.spare + 1 ≡ before.spare
+  pub entries : after.entries ≡ before.entries ++ entry ∷ []

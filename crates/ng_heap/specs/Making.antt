@@ -1,0 +1,38 @@
+-- What a request comes to.
+use Rattle.std.specs.Prelude.{◌≡◌, ◌≢◌, ℕ, ◌-◌, ◌%◌, Result, Ok, Err}
+use Rattle.ng_group.specs.Hands.{GainsSlot}
+use Rattle.ng_terms.specs.Histories.{refusal_entry}
+use Rattle.ng_terms.specs.declared.entry.Entry.{Entry}
+use Rattle.ng_terms.specs.declared.entry.Entry.TheVariants.{Give}
+use Rattle.ng_terms.specs.declared.refusal.AllocRefusal.{AllocRefusal}
+use Rattle.ng_space.specs.Blocks.{BlockToken, HasBlock, HasFramed, OfSlot}
+use Rattle.ng_space.specs.Callers.{Caller}
+use Rattle.ng_space.specs.Leaving.{Leaves}
+use Rattle.ng_view.specs.Frame.{IsGiven}
+use Rattle.ng_view.specs.Steps.{loaded}
+use Rattle.ng_view.specs.declared.view.View.{View}
+use Rattle.ng_heap.specs.Keeps.{IsFresh}
+
+-- the entry of a request of n bytes
+abbrev pub malloc_entry : ℕ → Result BlockToken AllocRefusal → Entry
+malloc_entry n (Ok block) = Give n 16 block.at
+malloc_entry n (Err why) = refusal_entry n why
+
+-- the hand has a framed block of n bytes, in a slot apart from those that it had, and at an address
+-- apart from those of its blocks
+pub record IsMade (n : ℕ) (before : Caller) (block : BlockToken) (after : Caller) : Type 0 where
+  pub len : block.len ≡ n
+  pub align : block.align ≡ 16
+  pub framed : HasFramed after block
+  pub fresh : IsFresh before block.slot
+  pub apart : (other : BlockToken) → HasBlock before other → other.at ≢ block.at
+
+-- the slot came; then the word in front of its start was loaded, and by the low half that was found
+-- the block is where it belongs; since then nothing of the view changed but the slot, the book and
+-- what was read
+pub record IsGivenNow (before : View) (block : BlockToken) (counter : ℕ) (after : Caller) : Type 0 where
+  pub came : View
+  pub gains : GainsSlot block.slot.meta block.slot.index before came
+  pub word : ℕ
+  pub leaves : Leaves block.slot (loaded came (block.slot.start - 4) word) after.view
+  pub given : OfSlot after block.slot (λ h. IsGiven h block.at block.len 16 (word % 4294967296) counter)
