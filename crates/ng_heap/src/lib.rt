@@ -5,6 +5,7 @@ mod freeing;
 mod heap;
 mod malloc;
 mod sending;
+mod shared;
 
 pub use freeing::Unlocked;
 pub use heap::Heap;
@@ -12,6 +13,7 @@ pub use ng_frame::Damage;
 pub use ng_mask::Needs;
 pub use ng_space::Parcel;
 pub use ng_terms::AllocRefusal;
+pub use shared::SharedHeap;
 
 #[cfg(test)]
 mod tests;
