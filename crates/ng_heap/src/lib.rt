@@ -16,4 +16,6 @@ pub use ng_terms::AllocRefusal;
 pub use shared::SharedHeap;
 
 #[cfg(test)]
+mod shared_tests;
+#[cfg(test)]
 mod tests;

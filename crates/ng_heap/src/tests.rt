@@ -29,6 +29,15 @@ fn parts(alloc: Global) -> Result<(Blank, Tables, FirstFit), Host>
     ensures parts { IfOk result (λ made. AreParts made.0 made.1 made.2) }
     ensures rooms { IfOk result (λ made. made.0.rooms ≡ ROOM ∷ []) }
 {
+    parts_for(alloc, &[ROOM])
+}
+
+// The same with a hand for each room.
+pub(crate) fn parts_for(alloc: Global, rooms: &[u64]) -> Result<(Blank, Tables, FirstFit), Host>
+    requires few { length rooms.now ≤ 16 }
+    ensures parts { IfOk result (λ made. AreParts made.0 made.1 made.2) }
+    ensures rooms { IfOk result (λ made. made.0.rooms ≡ rooms.now) }
+{
     let start = Start {
         pages: u64::from(PAGES),
         lower: 0x1000,
@@ -37,7 +46,7 @@ fn parts(alloc: Global) -> Result<(Blank, Tables, FirstFit), Host>
         refusals: 0,
         cap: LARGE - 1,
     };
-    let blank = Blank::new(alloc, start, &[ROOM])?;
+    let blank = Blank::new(alloc, start, rooms)?;
     let tables = Tables::new(alloc, PAGES)?;
     let mapper = FirstFit::new(alloc, PAGES, Vec::new(alloc))?;
     Ok((blank, tables, mapper))
@@ -72,14 +81,14 @@ fn begin<N: Name, P: Rules + Drop>(
 }
 
 // The choices of musl.
-fn count(ask: Ask) -> u32
+pub(crate) fn count(ask: Ask) -> u32
     requires { AskInRange ask }
     ensures { IsCount ask.class result }
 {
     musl_count(ask)
 }
 
-fn keep(spare: Spare) -> bool {
+pub(crate) fn keep(spare: Spare) -> bool {
     musl_keep(spare)
 }
 
