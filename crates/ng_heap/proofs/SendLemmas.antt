@@ -1,8 +1,8 @@
 -- What a hand still has once a block has come in.
-use Rattle.std.proofs.Common.{◌≡◌, ◌≢◌, ℕ, ◌+◌, ◌≤◌, cond, true, false, true≢false, ◌∷◌, ◌++◌, sym, ap, ◌∙◌, subst, ⊎_elim, inl, inr, arith}
+use Rattle.std.proofs.Common.{◌≡◌, ◌≢◌, ℕ, ◌+◌, ◌≤◌, cond, true, false, true≢false, [], ◌∷◌, ◌++◌, sym, ap, ◌∙◌, subst, ⊎_elim, inl, inr, arith}
 use Rattle.std.proofs.lemmas.Bool.{cases_eq}
 use Rattle.std.specs.Prelude.{Some}
-use Rattle.ng_space.specs.Leaving.{AreFramed, IsOther, KeepsOthers}
+use Rattle.ng_space.specs.Leaving.{AreFramed, IsOther, KeepsOthers, KeepsRest, Leaves}
 use Rattle.ng_space.proofs.LeavingFrames.{known_frame, loaded_each}
 use Rattle.ng_space.proofs.Leaving.{learns_itself, loaded_others, not_at, others_then}
 use Rattle.ng_rule.proofs.geometry.Lists.{count_of-zero, find_among, is_at-true, total_by-among}
@@ -16,7 +16,7 @@ use Rattle.ng_space.specs.Parcels.{IsOfOneSlot, ParcelToken, taken_by}
 use Rattle.ng_space.specs.Placed.{AreOnce, times_at}
 use Rattle.ng_space.specs.Tokens.{Token}
 use Rattle.ng_group.specs.Hands.{IsApart}
-use Rattle.ng_heap.specs.Keeps.{IsFresh, KeepsFrames}
+use Rattle.ng_heap.specs.Keeps.{IsFresh, took_one}
 
 -- a parcel came in, and word 0 was loaded then, which told that each slot is in the hand once
 pub record Receives (old mid new : Caller) (parcel : ParcelToken) : Type 0 where
@@ -96,9 +96,23 @@ module _ (old mid new : Caller) (parcel : ParcelToken) (receives : Receives old 
           (λ (ne : other.meta ≢ m'). inl ne)
           (cases_eq other.meta m')
 
-  pub came_frames : (block : BlockToken) (number : ℕ) → block ≡ taken_by parcel.block number → HasFramed mid block → KeepsFrames old new
-  came_frames block number is has =
-      record { number = receives.number; each = λ framed. loaded_each mid.view new.view 0 receives.word receives.loads (each framed) }
+  came_rest : KeepsRest (took_one old.view) new.view
+  came_rest = record {
+    excuses = ap (λ (v : View). v.excuses) receives.loads ∙ ap (λ (v : View). v.excuses) receives.joins;
+    sent = ap (λ (v : View). v.sent) receives.loads ∙ ap (λ (v : View). v.sent) receives.joins;
+    taken = ap (λ (v : View). v.taken) receives.loads ∙ ap (λ (v : View). v.taken) receives.joins;
+    more = (0, receives.word) ∷ [];
+    readings = ap (λ (v : View). v.readings) receives.loads ∙ ap (λ (v : View). v.readings ++ (0, receives.word) ∷ []) receives.joins;
+  }
+
+  pub came_leaves : (block : BlockToken) (number : ℕ) → block ≡ taken_by parcel.block number → HasFramed mid block
+      → Leaves block.slot (took_one old.view) new.view
+  came_leaves block number is has =
+      let others = came_others block number is in record {
+        others = record { slots = others.slots; back = others.back };
+        rest = came_rest;
+        each = λ framed. loaded_each mid.view new.view 0 receives.word receives.loads (each framed);
+      }
     where
       here : find m' i' mid.view.held ≡ Some k
       here = ap (λ hs. find m' i' hs) held_is ∙ ap (λ b. cond b (Some k) (find m' i' old.view.held)) receives.of.there

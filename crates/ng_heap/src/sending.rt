@@ -1,9 +1,10 @@
 // Blocks that go from hand to hand.
-ghost use Rattle.std.specs.Prelude.{◌≡◌, ◌+◌};
-ghost use Rattle.ng_space.specs.Leaving.{KeepsBook, KeepsOthers, KeepsSlots};
-ghost use Rattle.ng_heap.specs.Keeps.{IsFresh, KeepsFrames};
+ghost use Rattle.std.specs.Prelude.{◌≡◌};
+ghost use Rattle.ng_space.specs.Leaving.{KeepsBook, KeepsSlots, Leaves};
+ghost use Rattle.ng_heap.specs.Keeps.{IsFresh, sent_one, took_one};
 ghost use Rattle.ng_space.specs.Blocks.{HasFramed};
 ghost use Rattle.ng_space.specs.Parcels.{taken_by};
+ghost use Rattle.ng_view.specs.Steps.{split_off};
 
 use crate::heap::Heap;
 use ng_space::{Block, Hand, Name, Parcel};
@@ -13,27 +14,21 @@ impl<N: Name> Heap<N> {
     pub fn send(&self, hand: &mut Hand<N>, block: Block<N>) -> Parcel<N>
         requires block { HasFramed hand.old block }
         ensures block { result.block ≡ block }
-        ensures others { KeepsOthers block.slot hand.old.view hand.new.view }
-        ensures frames { KeepsFrames hand.old hand.new }
-        ensures excuses { hand.new.view.excuses ≡ hand.old.view.excuses }
-        ensures sent { hand.new.view.sent ≡ hand.old.view.sent + 1 }
-        ensures taken { hand.new.view.taken ≡ hand.old.view.taken }
+        ensures view { hand.new.view ≡ split_off hand.old.view block.slot.meta block.slot.index }
+        ensures leaves { Leaves block.slot (sent_one hand.old.view) hand.new.view }
         ensures book { KeepsBook hand.old hand.new }
     {
         self.space.split_parcel(hand, block)
     }
 
-    /// Takes a block in that another hand sent. It is framed, and in a slot apart from those that the hand had.
+    /// Takes a block in that another hand sent. It is framed, and in a slot apart from those that the
+    /// hand had.
     pub fn receive(&self, hand: &mut Hand<N>, parcel: Parcel<N>) -> Block<N>
         ensures block { result ≡ taken_by parcel.block hand.old.number }
         ensures framed { HasFramed hand.new result }
         ensures fresh { IsFresh hand.old result.slot }
-        ensures others { KeepsOthers result.slot hand.old.view hand.new.view }
+        ensures leaves { Leaves result.slot (took_one hand.old.view) hand.new.view }
         ensures slots { KeepsSlots hand.old.view hand.new.view }
-        ensures frames { KeepsFrames hand.old hand.new }
-        ensures excuses { hand.new.view.excuses ≡ hand.old.view.excuses }
-        ensures sent { hand.new.view.sent ≡ hand.old.view.sent }
-        ensures taken { hand.new.view.taken ≡ hand.old.view.taken + 1 }
         ensures book { KeepsBook hand.old hand.new }
     {
         let block = self.space.join_parcel(hand, parcel);

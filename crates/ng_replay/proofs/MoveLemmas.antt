@@ -28,9 +28,9 @@ pub HasFramed-kept : (before after : Caller) → after.number ≡ before.number 
     → (block : BlockToken) → HasFramed before block → HasFramed after block
 HasFramed-kept before after number slots block = framed_stays before after number block (slots block.slot.meta block.slot.index)
 
-pub HasFramed-beside : (before after : Caller) (slot : Token) → KeepsFrames before after → KeepsOthers slot before.view after.view
+pub HasFramed-beside : (before after : Caller) (slot : Token) → after.number ≡ before.number → KeepsOthers slot before.view after.view
     → (other : BlockToken) → IsApart other.slot slot → HasFramed before other → HasFramed after other
-HasFramed-beside before after slot frames others other apart = framed_kept before after slot frames.number others other apart
+HasFramed-beside before after slot number others other apart = framed_kept before after slot number others other apart
 
 -- one step after the other, and none
 pub KeepsFrames-then : (one two three : Caller) → KeepsFrames one two → KeepsFrames two three → KeepsFrames one three

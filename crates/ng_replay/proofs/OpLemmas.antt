@@ -1,10 +1,11 @@
 -- An op of a log by its hand: a block in, the call, and a block off.
-use Rattle.std.proofs.Common.{◌≡◌, ℕ, zero, suc, ◌-◌, ◌≤◌, List, [], ◌∷◌, ◌++◌, Option, Some, None, length, get_or, take, drop, arith, refl, ap, sym, subst, ◌∙◌}
+use Rattle.std.proofs.Common.{◌≡◌, ℕ, zero, suc, ◌+◌, ◌-◌, ◌<◌, ◌≤◌, List, [], ◌∷◌, ◌++◌, Option, Some, None, length, get_or, take, drop, arith, refl, ap, sym, subst, ◌∙◌}
 use Rattle.std.specs.Prelude.{IfSome}
 use Rattle.std.proofs.Math.ListN.{set}
 use Rattle.std.proofs.lemmas.List.{append-nil, map-append, map-set, take_all}
-use Rattle.ng_space.specs.Leaving.{KeepsOthers}
-use Rattle.ng_heap.specs.Keeps.{KeepsFrames}
+use Rattle.std.proofs.lemmas.List.Sums.{sum_by-set}
+use Rattle.ng_space.specs.Leaving.{Leaves}
+use Rattle.ng_heap.specs.Keeps.{sent_one}
 use Rattle.ng_space.specs.Blocks.{BlockToken, HasFramed}
 use Rattle.ng_space.specs.Callers.{Caller}
 use Rattle.ng_space.specs.Parcels.{ParcelToken}
@@ -12,7 +13,7 @@ use Rattle.ng_terms.specs.declared.plan.Op.{Op}
 use Rattle.ng_terms.specs.declared.plan.Origin.{Origin}
 use Rattle.ng_terms.specs.declared.reply.Reply.{Reply}
 use Rattle.ng_terms.specs.Calls.{handed_as, origin_of, standing}
-use Rattle.ng_replay.specs.Serial.{AreApartFrom, AreHeld, IsVacant, at_of_parcel, handed_after, handed_in, handed_with, handed_without, places_of, row_after, row_without, staying}
+use Rattle.ng_replay.specs.Serial.{AreApartFrom, AreHeld, IsVacant, KeepsBalance, at_of_parcel, handed_after, handed_in, handed_with, handed_without, one_of, places_of, row_after, row_without, staying}
 use Rattle.ng_replay.specs.Serving.{IsApartFrom, at_of}
 use Rattle.ng_replay.proofs.MoveLemmas.{HasFramed-beside}
 use Rattle.ng_replay.proofs.RowLemmas.{AreHeld-kept, AreHeld-push, at_of_parcel-none, get_or-handed_in, handed_in-without, places_of-without, set-none}
@@ -50,12 +51,19 @@ handed_in-sent given number block token parcels put parcel is block_is put_is sa
     ∙ sym (ap (λ (b : Option BlockToken). set (handed_in parcels) (number - 1) (at_of b)) block_is)
     ∙ sym (ap (λ (g : Option ℕ). handed_with g (at_of block) (handed_in parcels)) is)
 
-pub AreHeld-sent : (before after : Caller) (block : Option BlockToken) (token : BlockToken) → block ≡ Some token → KeepsFrames before after
-    → KeepsOthers token.slot before.view after.view → (row : List (Option BlockToken)) → AreApartFrom block row → AreHeld before row → AreHeld after row
-AreHeld-sent before after block token is frames kept row apart held =
+pub AreHeld-sent : (before after : Caller) (block : Option BlockToken) (token : BlockToken) → block ≡ Some token → after.number ≡ before.number
+    → Leaves token.slot (sent_one before.view) after.view → (row : List (Option BlockToken)) → AreApartFrom block row → AreHeld before row → AreHeld after row
+AreHeld-sent before after block token is number leaves row apart held =
     AreHeld-kept before after row
-    (λ op other at framed. HasFramed-beside before after token.slot frames kept other
+    (λ op other at framed. HasFramed-beside before after token.slot number (record { slots = leaves.others.slots; back = leaves.others.back }) other
     (subst (λ (b : Option BlockToken). IsApartFrom b other) is (apart op other at)) framed) held
+
+-- one parcel more is on its way, in a place that had none
+pub KeepsBalance-sent : (before after : Caller) (parcels : List (Option ParcelToken)) (i : ℕ) (parcel d : Option ParcelToken) (token : ParcelToken)
+    → i < length parcels → get_or parcels i d ≡ None → parcel ≡ Some token → after.view.sent ≡ before.view.sent + 1
+    → after.view.taken ≡ before.view.taken → KeepsBalance before after parcels (set parcels i parcel)
+KeepsBalance-sent before after parcels i parcel d token below none some_one sent taken =
+    omega (arith, sum_by-set one_of parcels i parcel d below, ap one_of none, ap one_of some_one, sent, taken)
 
 -- ---- the op
 pub IsVacant-left : (given : Option ℕ) (origin : Origin) (parcels left : List (Option ParcelToken)) → left ≡ handed_without origin parcels

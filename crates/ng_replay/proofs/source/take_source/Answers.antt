@@ -18,4 +18,4 @@ returns-in-Some-clause-apart g c = AreApartFrom-fresh c.args.hand.now c.args.row
 pub returns-in-Some-clause-held : goal.returns-in-Some-clause-held
 returns-in-Some-clause-held g c =
     AreHeld-kept c.args.hand.now c.receive.new.hand c.args.row.now
-    (λ op block is framed. HasFramed-kept _ _ c.receive.ensures.frames.number c.receive.ensures.slots block framed) c.requires.held
+    (λ op block is framed. HasFramed-kept _ _ c.receive.ensures.book.number c.receive.ensures.slots block framed) c.requires.held

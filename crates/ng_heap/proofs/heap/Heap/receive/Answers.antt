@@ -3,7 +3,7 @@ use Rattle.ng_space.specs.Leaving.{KeepsOthers}
 use Rattle.ng_frame.proofs.Tokens.{framed_stays}
 use Rattle.ng_space.proofs.Leaving.{loaded_all}
 use Rattle.ng_heap.specs.Keeps.{IsFresh}
-use Rattle.ng_heap.proofs.SendLemmas.{Receives, came_frames, came_fresh, came_others}
+use Rattle.ng_heap.proofs.SendLemmas.{Receives, came_fresh, came_leaves, came_others}
 use Rattle.ng_heap.proofs.StayLemmas.{fresh_slots}
 use Rattle.ng_heap.proofs.heap.Heap.receive.Given.{Over}
 use Rattle.ng_heap.proofs.heap.Heap.receive.Goals as goal
@@ -38,13 +38,10 @@ returns-clause-framed g c =
 pub returns-clause-fresh : goal.returns-clause-fresh
 returns-clause-fresh g c = fresh g c
 
-pub returns-clause-others : goal.returns-clause-others
-returns-clause-others g c = others g c
+pub returns-clause-leaves : goal.returns-clause-leaves
+returns-clause-leaves g c =
+    let join = c.join_parcel-block in
+    came_leaves c.args.hand.now join.new.hand c.load.new.hand c.args.parcel (receives g c) join.result _ join.ensures.block join.ensures.has
 
 pub returns-clause-slots : goal.returns-clause-slots
 returns-clause-slots g c = fresh_slots c.args.hand.now c.join_parcel-block.result.slot (fresh g c) c.load.new.hand.view (others g c)
-
-pub returns-clause-frames : goal.returns-clause-frames
-returns-clause-frames g c =
-    let join = c.join_parcel-block in
-    came_frames c.args.hand.now join.new.hand c.load.new.hand c.args.parcel (receives g c) join.result _ join.ensures.block join.ensures.has
