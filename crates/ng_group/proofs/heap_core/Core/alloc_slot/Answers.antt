@@ -1,7 +1,7 @@
 use Rattle.std.proofs.Common.{ap, refl, sym, ◌∙◌, arith, inl, inr}
 use Rattle.ng_view.specs.declared.view.View.{View}
 use Rattle.ng_group.specs.Hands.{GainsExcuse, GainsSlot}
-use Rattle.ng_group.proofs.AskedLemmas.{builds_none, passed_builds, passed_cause, passed_leaves}
+use Rattle.ng_group.proofs.AskedLemmas.{passed_builds, passed_cause, passed_leaves}
 use Rattle.ng_group.proofs.CallLemmas.{Refuses, Serves, bounded_calm, bounded_most, excuse_found, excuse_number, first_place, refuses_at, rests_excuse, rests_slot, serves_at, slot_found, slot_motion, slot_place, works_of}
 use Rattle.ng_group.proofs.HandKeepLemmas.{apart_of, excused_blocks, excused_slots, gained_blocks, gained_slots}
 use Rattle.ng_group.proofs.HandSlotLemmas.{Tried, excused, passed, passed_slot, tried_not, tried_pop, won, won_slot}

@@ -22,7 +22,7 @@ pub coarse-requires-clause-next_usage : goal.coarse-requires-clause-next_usage
 coarse-requires-clause-next_usage g c =
     let least = subst (λ (answer : Option ℕ). IfSome answer (IsLeastClass c.args.bytes)) c.unwrap-class.ensures c.class_of.ensures.least in
     let known : c.unwrap-class.result + 1 < 48 = omega (arith, c.if-next-eq-CLASSES.false, least.known) in
-    usage_at g.N.Name.facts.start g.M.Mapper.span g.M.Mapper.runs g.M.Mapper.refused (c.unwrap-class.result + 1) (ap (λ (x : Inside g.row.N.Denot g.row.M.Denot g.row.P.Denot). x.works) c.self-inside.view_is) c.self.invariant.working c.args.space.now.range.addressed known
+    usage_at g.N.Name.facts.start g.M.Mapper.span g.M.Mapper.runs g.M.Mapper.refused (c.unwrap-class.result + 1) (ap (λ (x : Inside g.row.N.Denot g.row.M.Denot g.row.P.Denot). x.works) c.self-inside.view_is) c.self.invariant.0.working c.args.space.now.range.addressed known
 
 pub returns-then-coarse-class-clause-class : goal.returns-then-coarse-class-clause-class
 returns-then-coarse-class-clause-class g c =
