@@ -1,5 +1,5 @@
 -- Runs become areas, and go.
-use Rattle.std.proofs.Common.{◌≡◌, ◌⊎◌, ℕ, ◌+◌, ◌*◌, ◌/◌, ◌%◌, ◌<◌, ◌≤◌, false, [], ◌∷◌, ◌++◌, refl, sym, ap, ◌∙◌, subst, ⊎_elim, inl, inr, append_assoc, arith}
+use Rattle.std.proofs.Common.{◌≡◌, ◌⊎◌, ℕ, ◌+◌, ◌*◌, ◌/◌, ◌%◌, ◌<◌, ◌≤◌, false, List, [], ◌∷◌, ◌++◌, refl, sym, ap, ◌∙◌, subst, ⊎_elim, inl, inr, append_assoc, arith}
 use Rattle.std.specs.Prelude.{bit_and}
 use Rattle.std.proofs.lemmas.Nat.{and_mask}
 use Rattle.ng_view.specs.Conditions.{AreaBuilt, Builds, Sees}
@@ -121,6 +121,13 @@ module _ (key : Start) (v w1 w2 w3 w4 : View) (addr before low high : ℕ) (run 
                 let e : w ≡ knowing (with_area v addr) cs (w4.readings ++ (0, told.found) ∷ []) = told.view ∙ ap (λ x. read (area_made x (plain_run addr 1)) 0 told.found) area_4.view in
                 subst (OnlyCells (with_area v addr)) (sym e)
                 (record { view = refl; came = area_4.came ++ (0, told.found) ∷ []; readings = ap (λ rs. rs ++ (0, told.found) ∷ []) area_4.readings ∙ append_assoc v.readings area_4.came ((0, told.found) ∷ []) })
+
+            -- word 0 was read, at the note
+            pub area_reads : (found : ℕ) × (w.readings ≡ v.readings ++ (0, found) ∷ [])
+            area_reads =
+                let same : w4.readings ≡ v.readings =
+                ap (λ (x : View). x.readings) e4 ∙ ap (λ (x : View). x.readings) e3 ∙ ap (λ (x : View). x.readings) e2 ∙ ap (λ (x : View). x.readings) e1 in
+                (told.found, ap (λ (x : View). x.readings) told.view ∙ ap (λ (rs : List (ℕ × ℕ)). rs ++ (0, told.found) ∷ []) same)
 
             noted : (b x : ℕ) → (b < addr) ⊎ (addr + 24 ≤ b) → (b < addr + 4064) ⊎ (addr + 4096 ≤ b) → Sees w4 b x → Sees w b x
             noted b x head tail s = subst (λ (y : View). Sees y b x) (sym told.view) (off_else addr (addr + 24) b x (cells_off (addr + 4064) (addr + 4096) w4.desk.cells) head (off_else (addr + 4064) (addr + 4096) b x w4.desk.cells tail s))

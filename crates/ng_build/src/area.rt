@@ -1,4 +1,4 @@
-ghost use Rattle.std.specs.Prelude.{◌≡◌, ◌⊎◌, ◌+◌, ◌*◌, ◌%◌, ◌<◌, ◌≤◌};
+ghost use Rattle.std.specs.Prelude.{◌≡◌, ◌⊎◌, ℕ, ◌+◌, ◌*◌, ◌%◌, ◌<◌, ◌≤◌, ◌∷◌, ◌++◌, []};
 ghost use Rattle.ng_view.specs.Layouts.{IsAreaAt};
 ghost use Rattle.ng_view.specs.Notes.{IsClearedRun};
 ghost use Rattle.ng_build.specs.Areas.{AreMetasZero, with_area};
@@ -25,6 +25,7 @@ pub fn make_area<N: Name>(space: &Space<N>, seat: &mut LockSeat<N>, addr: u64, b
     ensures view { OnlyCells (with_area seat.old addr) seat.new }
     ensures metas { AreMetasZero seat.new addr }
     ensures kept { KeepsOutside seat.old seat.new addr (addr + 4096) }
+    ensures reads { (found : ℕ) × (seat.new.readings ≡ seat.old.readings ++ (0, found) ∷ []) }
 {
     let secret = space.start().secret;
     space.store_page(seat, addr, (secret & 0xffff_ffff) as u32);

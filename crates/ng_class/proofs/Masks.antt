@@ -2,7 +2,7 @@
 use Rattle.std.proofs.Common.{◌≡◌, ◌-◌, ◌∙◌, ◌/◌, ℕ, ◌+◌, ◌/◌, ◌^◌, ◌<◌, ◌≤◌, arith, ap, ⊎_elim}
 use Rattle.std.specs.Int.{bit_at, w32, trailing_zeros}
 use Rattle.std.proofs.lemmas.Bool.{cases_lt}
-use Rattle.std.proofs.lemmas.Nat.Bits.{bit_at-trailing_zeros, bit_at_ones, bit_at_ones_above, ones_shr}
+use Rattle.std.proofs.lemmas.Nat.Bits.{bit_at-trailing_zeros, bit_at_ones, bit_at_ones_above, ones_shr, bit_at_above}
 use Rattle.ng_class.specs.Mask.{IsLowestBit, HasBitsTo, all_bits_of}
 
 -- what `trailing_zeros` answers at a mask with a bit set
@@ -10,6 +10,14 @@ pub lowest_trailing_zeros : (mask : ℕ) → 0 < mask → mask < 2 ^ 32 → IsLo
 lowest_trailing_zeros mask some fits =
     let (known, set, lowest) = bit_at-trailing_zeros w32 mask some fits in
     record { known = known; set = set; lowest = lowest }
+
+-- a number with this bit set is at least the bit's own
+pub pow-le : (mask bit : ℕ) → bit_at mask bit ≡ 1 → 2 ^ bit ≤ mask
+pow-le mask bit set =
+    ⊎_elim
+    (λ (below : mask < 2 ^ bit). absurd (omega (arith, bit_at_above mask bit bit below (omega arith), set)))
+    (λ above. above)
+    (cases_lt mask (2 ^ bit))
 
 -- the mask of the slots 0 to last has each of these bits
 pub bit_at-all_bits_of : (last bit : ℕ) → bit ≤ last → bit_at (all_bits_of last) bit ≡ 1

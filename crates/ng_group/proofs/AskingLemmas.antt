@@ -1,13 +1,14 @@
 -- What a search for a slot and for a meta leaves, and what it asks the mapper for.
 use Rattle.std.proofs.Common.{◌≡◌, ◌≢◌, ◌⊎◌, ℕ, ◌+◌, ◌-◌, false, List, [], ◌∷◌, ◌++◌, Contains, length, refl, sym, ap, ◌∙◌, subst, ⊎_elim, inl, inr, arith}
 use Rattle.std.proofs.lemmas.Bool.{cases_eq}
-use Rattle.std.proofs.lemmas.List.{length-append, length-drop}
+use Rattle.std.proofs.lemmas.List.{append-nil, length-append, length-drop}
 use Rattle.ng_lists.specs.Rings.{ring_of}
 use Rattle.ng_lists.proofs.MemberLemmas.{Contains-first}
 use Rattle.ng_mapper.specs.Runs as mapper
 use Rattle.ng_mapper.specs.declared.refusals.Refusals.{Refusals}
 use Rattle.ng_policy.specs.declared.ask.Ask.{Ask}
-use Rattle.ng_serve.specs.Reads.{IsBareIn}
+use Rattle.ng_serve.specs.Reads.{AllBare, IsBareIn}
+use Rattle.ng_serve.proofs.Readings.{all_then}
 use Rattle.ng_shelf.specs.Stock.{Stock, free_of, metas_of}
 use Rattle.ng_supply.specs.Metas.{FindsMeta, TakesNext, TakesOfArea, area_run}
 use Rattle.ng_supply.specs.Runs.{RefusesRun}
@@ -17,8 +18,8 @@ use Rattle.ng_view.specs.declared.view.Run.{Run}
 use Rattle.ng_view.specs.declared.view.Start.{Start}
 use Rattle.ng_view.specs.declared.view.View.{View}
 use Rattle.ng_ledger.specs.Rings.{IsIn}
-use Rattle.ng_group.specs.Asking.{BuildsWanted, IsWalked, LeavesHeap, RefusedWanted, Want, areas, group_runs}
-use Rattle.ng_group.specs.Serving.{FindsNoSlot, OnlyRing}
+use Rattle.ng_group.specs.Asking.{GetsSlot, IsWalked, LeavesHeap, RefusedWanted, Want, areas, group_runs}
+use Rattle.ng_group.specs.Serving.{FindsNoSlot, IsServedBy, OnlyRing}
 use Rattle.ng_group.specs.States.{State}
 use Rattle.ng_group.specs.Steps.{Came}
 use Rattle.ng_group.proofs.WantLemmas.{Seeks, TakesArea, TakesFree, area_first, bare_left, came_on, runs_of}
@@ -30,14 +31,52 @@ only_inside {M = M} {P = P} class s inside found same only = subst (λ (x : Stat
 pub none_inside : {M P : Type 0} (class : ℕ) (s inside found : State M P) → inside ≡ found → FindsNoSlot class s found → FindsNoSlot class s inside
 none_inside {M = M} {P = P} class s inside found same none = subst (λ (x : State M P). FindsNoSlot class s x) (sym same) none
 
+-- ---- words that were read at a note
+pub one_zero : (found : ℕ) → AllBare ((0, found) ∷ [])
+one_zero found word (inl same) = inl (ap (λ (x : ℕ × ℕ). x.0) same)
+one_zero found word (inr none) = absurd none
+
+two_zero : (first second : ℕ) → AllBare ((0, first) ∷ (0, second) ∷ [])
+two_zero first second word (inl same) = inl (ap (λ (x : ℕ × ℕ). x.0) same)
+two_zero first second word (inr rest) = one_zero second word rest
+
+-- of a meta that was found only where an area came
+pub supply_came : (start : Start) (live live' : List mapper.Run) (v : View) (kept : Stock) (meta : ℕ) (w : View) (stock : Stock)
+    → FindsMeta start v live kept meta w live' stock → (came : Came v w) × AllBare came.words
+supply_came start live live' v kept meta w stock finds = ⊎_elim
+    (λ (next : TakesNext v live kept meta w live' stock). (
+      record { words = []; readings = ap (λ (x : View). x.readings) next.seat ∙ sym (append-nil v.readings) },
+      λ word there. absurd there,
+    ))
+    (λ (of : TakesOfArea start v live kept meta w live' stock). (
+      record { words = (0, of.adds.reads.0) ∷ (0, of.adds.reads.1) ∷ []; readings = of.adds.reads.2 },
+      two_zero of.adds.reads.0 of.adds.reads.1,
+    ))
+    finds.source
+
 -- ---- the ring served the call
-pub builds_none : {M P : Type 0} (counts : Ask → ℕ → Type 0) (s after : State M P) (class bytes : ℕ) → OnlyRing class s after → BuildsWanted counts s after class bytes
-builds_none {M = M} {P = P} counts s after class bytes only = record {
-  came = only.came;
+pub gets_served : {M P : Type 0} (counts : Ask → ℕ → Type 0) (s after : State M P) (class bytes : ℕ) → OnlyRing class s after → IsServedBy class s after → GetsSlot counts s after class bytes
+gets_served {M = M} {P = P} counts s after class bytes only served = record {
+  early = [];
+  late = served.came.words;
+  readings = served.came.readings;
+  all = λ word there. absurd there;
+  new_runs = [];
+  runs_are = runs;
   runs = λ r there. inl (subst (λ (rs : List Run). Among r rs) runs there);
-  groups = λ g there. inl (subst (λ (gs : List Group). Among g gs) (ap (λ (v : View). v.desk.groups) only.view) there);
   one_area = inl (ap areas runs);
-  counted = inl (ap group_runs runs, ap (λ (x : State M P). x.counter) only.state);
+  new_groups = [];
+  groups_are = ap (λ (v : View). v.desk.groups) only.view;
+  groups = λ g there. inl (subst (λ (gs : List Group). Among g gs) (ap (λ (v : View). v.desk.groups) only.view) there);
+  rising = tt;
+  source = inl (record {
+    sought = class;
+    is_sought = inl refl;
+    above = omega arith;
+    serves = served.serves;
+    runs = ap group_runs runs;
+    counter = ap (λ (x : State M P). x.counter) only.state;
+  });
 }
   where
     runs : after.seat.desk.layout.runs ≡ s.seat.desk.layout.runs
@@ -64,10 +103,11 @@ module _ {M P : Type 0} (class : ℕ) (s mid : State M P) (sought : Seeks class 
 
 -- ---- the ring didn't, and the seat went on from there
 pub seeks : {M P : Type 0} (class : ℕ) (s found : State M P) (w : View) (stock : Stock) (m : M)
-    → OnlyRing class s found → FindsNoSlot class s found → Came found.seat w → w.desk.groups ≡ found.seat.desk.groups → w.desk.layout.nests ≡ found.seat.desk.layout.nests
+    → OnlyRing class s found → FindsNoSlot class s found → (came : Came found.seat w) → AllBare came.words → w.desk.groups ≡ found.seat.desk.groups → w.desk.layout.nests ≡ found.seat.desk.layout.nests
     → Seeks class s (record found { seat = w; stock = stock; mapper = m })
-seeks {M = M} {P = P} class s found w stock m only none came groups nests = record {
+seeks {M = M} {P = P} class s found w stock m only none came bare groups nests = record {
   came = came_on s.seat found.seat w none.came came;
+  all = all_then none.came.words came.words none.all bare;
   read = λ m in'. bare_left none.came.words came.words m (none.read m in');
   left = none.left;
   rings = only.rings;
@@ -120,8 +160,9 @@ module _ {M P : Type 0} (class : ℕ) (s found : State M P) (only : OnlyRing cla
         finds.source
 
     pub found_seeks : FindsNoSlot class s found → Seeks class s mid
-    found_seeks none = seeks class s found w stock m only none
-        (record { words = finds.view.came; readings = finds.view.readings })
+    found_seeks none =
+        let came = supply_came start live live' found.seat found.stock meta w stock finds in
+        seeks class s found w stock m only none came.0 came.1
         (ap (λ (v : View). v.desk.groups) finds.view.view)
         (ap (λ (v : View). v.desk.layout.nests) finds.view.view)
 
@@ -130,6 +171,7 @@ module _ {M P : Type 0} (class : ℕ) (s found : State M P) (only : OnlyRing cla
     refused_seeks : Seeks class s (record found { seat = w; stock = stock; mapper = m })
     refused_seeks = seeks class s found w stock m only none
         (record { words = (0, refuses.note.found) ∷ []; readings = ap (λ (v : View). v.readings) refuses.note.view })
+        (one_zero refuses.note.found)
         (ap (λ (v : View). v.desk.groups) refuses.note.view)
         (ap (λ (v : View). v.desk.layout.nests) refuses.note.view)
 
@@ -144,6 +186,7 @@ module _ {M P : Type 0} (class : ℕ) (s found : State M P) (only : OnlyRing cla
       cause = inl (
         last ∙ refuses.asked.last,
         ap areas refused_runs,
+        refused_seeks.bounces,
         area_first counts s (record found { seat = w; stock = stock; mapper = m }) class bytes refused_seeks want refl refl refused_seeks.came.words (λ m bare. bare) (ap free_of (sym same_stock) ∙ empty),
       );
     }
@@ -154,6 +197,7 @@ module _ {M P : Type 0} (class : ℕ) (s found : State M P) (only : OnlyRing cla
     pub area_leaves : LeavesHeap s (record found { seat = w; stock = stock; mapper = m })
     area_leaves = record {
       came = refused_seeks.came;
+      all = refused_seeks.all;
       groups = refused_seeks.groups;
       nests = refused_seeks.nests;
       usage = refused_seeks.usage;

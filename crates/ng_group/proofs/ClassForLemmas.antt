@@ -2,8 +2,10 @@
 use Rattle.std.proofs.Common.{◌≡◌, ◌≢◌, ◌⊎◌, ℕ, ◌+◌, ◌*◌, ◌%◌, ◌^◌, ◌<◌, ◌≤◌, ◌↔◌, eqb, cond, Bool, true, false, List, [], ◌∷◌, ◌++◌, None, Some, refl, sym, ap, subst, ◌∙◌, ⊎_elim, inl, inr, not, nat_eq, true≢false, arith}
 use Rattle.std.specs.Bool.{IsTrue}
 use Rattle.std.proofs.lemmas.Bool.{cases_eq, eq-eqb, ne_eqb}
-use Rattle.std.specs.List.{slice_get}
-use Rattle.std.proofs.lemmas.List.{append_cancel_left}
+use Rattle.std.specs.List.{slice_get, slice_index}
+use Rattle.std.specs.Option.{is_some}
+use Rattle.std.specs.Prelude.{IsNone, Option}
+use Rattle.std.proofs.lemmas.List.{append-nil, append_cancel_left}
 use Rattle.ng_lists.specs.Rings.{ring_of}
 use Rattle.ng_lists.proofs.MemberLemmas.{Contains-first}
 use Rattle.ng_view.specs.Loads.{Loads, freed_read}
@@ -24,12 +26,13 @@ use Rattle.ng_ledger.proofs.RingLemmas.{grow}
 use Rattle.ng_serve.specs.Reads.{Notes, NotesBy, Reads}
 use Rattle.ng_serve.proofs.Readings.{notes_avail, notes_freed, notes_reads, notes_then, reads_none}
 use Rattle.ng_class.specs.Class.{IsLeastClass}
+use Rattle.ng_policy.specs.Coarse.{GoesUp}
 use Rattle.ng_group.specs.ClassFor.{IsClassFor, IsLooked, IsReady}
 use Rattle.ng_group.specs.Serving.{with_search}
 use Rattle.ng_group.specs.States.{IsResting, Resting, State, ledger_of}
 use Rattle.ng_group.specs.Steps.{Came}
 use Rattle.ng_group.proofs.MappingLemmas.{with_seat}
-use Rattle.ng_group.proofs.WorkingLemmas.{came_same, searched, searched_hand}
+use Rattle.ng_group.proofs.WorkingLemmas.{searched, searched_hand}
 
 -- ---- the first group of a ring
 pub first_live : {M P : Type 0} (start : Start) (span : M → Span) (runs : M → List mapper.Run) (refused : M → Refusals) (s : State M P) (class m : ℕ)
@@ -50,9 +53,9 @@ first_cells start span runs refused s class m rests known first =
     let stands : m ≡ 4096 * place.page + 24 + 40 * place.i = place.stands in
     record { whole = omega (arith, stands); inside = omega (arith, stands, place.inside, place.counted) }
 
--- both masks of a meta are among the words, and tell whether there is a slot in one of them
+-- both masks of a meta are the words, and tell whether there is a slot in one of them
 abbrev Shows : Bool → ℕ → List (ℕ × ℕ) → Type 0
-Shows ready m words = (avail : ℕ) × (freed : ℕ) × Among {A = ℕ × ℕ} (m + 24, avail) words × Among {A = ℕ × ℕ} (m + 28, freed) words × (IsTrue ready ↔ ((0 < avail % 2 ^ 32) ⊎ (0 < freed)))
+Shows ready m words = (avail : ℕ) × (freed : ℕ) × (words ≡ (m + 24, avail) ∷ (m + 28, freed) ∷ []) × (IsTrue ready ↔ ((0 < avail % 2 ^ 32) ⊎ (0 < freed)))
 
 -- ---- both masks were read
 pub record ReadsMasks (v : View) (m avail freed : ℕ) (u w : View) : Type 0 where
@@ -115,7 +118,7 @@ module _ {v : View} {m avail freed : ℕ} {u w : View} (reads : ReadsMasks v m a
   pub masks_ready : (came : Came v w) (ring : List ℕ) (ready : Bool) → Some m ≡ slice_get ring 0 → (IsTrue ready ↔ ((0 < avail % 2 ^ 32) ⊎ (0 < freed))) → IsReady came.words ring ready
   masks_ready came ring ready first is = record {
     empty = λ none. absurd (never none);
-    first = λ k firsts. subst (Shows ready k) (sym (masks_words came)) (subst (λ (n : ℕ). Shows ready n words) (same k firsts) (avail, freed, inl refl, inr (inl refl), is));
+    first = λ k firsts. subst (Shows ready k) (sym (masks_words came)) (subst (λ (n : ℕ). Shows ready n words) (same k firsts) (avail, freed, refl, is));
   }
     where
       same : (k : ℕ) → slice_get ring 0 ≡ Some k → m ≡ k
@@ -174,6 +177,16 @@ pub ready_at : {M P : Type 0} {s s' : State M P} {m avail freed : ℕ} {u w : Vi
 ready_at {M = M} {P = P} {s = s} {w = w} class ready same reads first is =
     subst (λ (x : State M P). (came : Came x.seat w) → IsReady came.words (ring_of x.rings class) ready) same (λ came. masks_ready reads came (ring_of s.rings class) ready first is)
 
+-- an empty ring has no slot, and no word was read
+pub empty_ready : (v : View) (ring : List ℕ) → ring ≡ [] → (came : Came v v) → IsReady came.words ring false
+empty_ready v ring none came = record {
+  empty = λ same. (refl, append_cancel_left {A = ℕ × ℕ} v.readings came.words [] (sym came.readings ∙ sym (append-nil v.readings)));
+  first = λ m first. absurd (no_first m (sym (ap (λ (xs : List ℕ). slice_get xs 0) none) ∙ first));
+}
+  where
+    no_first : (m : ℕ) → None ≡ Some m → ⊥
+    no_first m e = cc
+
 -- nothing was read
 pub looked_same : {M P : Type 0} (s : State M P) → IsLooked s s
 looked_same s =
@@ -217,14 +230,42 @@ pub greatest_serves : {M P : Type 0} (s : State M P) (bytes class : ℕ) → cla
 greatest_serves s bytes class greatest least = record {
   least = class;
   is_least = least;
-  came = came_same s.seat;
+  came = record { words = []; readings = sym (append-nil s.seat.readings) };
   has_group = has_some (ring_of s.rings class);
   has_is = has_some_is (ring_of s.rings class);
   ready = true;
   ready_is = λ up. absurd (odd up.fine.even);
+  unread = λ down. refl;
   up = (λ more. absurd (omega (arith, more)), λ up. absurd (odd up.fine.even));
   stays = λ other. refl;
 }
   where
     odd : class % 2 ≡ 0 → ⊥
     odd even = omega (arith, even, greatest)
+
+-- ---- the least class serves where the next wouldn't with a slot
+has_tells : (first : Option ℕ) (has : Bool) (ring : List ℕ) → has ≡ is_some first → (IsNone first ↔ (ring ≡ [])) → IsTrue has ↔ (ring ≢ [])
+has_tells None has ring is none = (λ t. absurd (true≢false (sym t ∙ is)), λ some. absurd (some (none.0 refl)))
+has_tells (Some m) has ring is none = (λ t empty. true≢false (none.1 empty), λ some. is)
+
+pub least_serves : {M P : Type 0} {s now : State M P} (bytes class answer : ℕ) (first : Option ℕ) (has : Bool) → s ≡ now → has ≡ is_some first
+    → (IsNone first ↔ (ring_of s.rings class ≡ []))
+    → ((answer ≡ class + 1) ↔ GoesUp class has (slice_index s.usage class) (slice_index s.usage (class + 1)) true) → answer ≡ class
+    → IsLeastClass bytes class → IsClassFor now now bytes class
+least_serves {M = M} {P = P} {s = s} bytes class answer first has same has_is none up is least = subst (λ (x : State M P). IsClassFor x x bytes class) same (record {
+  least = class;
+  is_least = least;
+  came = record { words = []; readings = sym (append-nil s.seat.readings) };
+  has_group = has;
+  has_is = has_tells first has (ring_of s.rings class) has_is none;
+  ready = true;
+  ready_is = λ goes. absurd (down goes);
+  unread = λ stays. refl;
+  up = (λ more. absurd (omega (arith, more)), λ goes. absurd (down goes));
+  stays = λ other. refl;
+})
+  where
+    down : ¬ GoesUp class has (slice_index s.usage class) (slice_index s.usage (class + 1)) true
+    down goes =
+        let more : answer ≡ class + 1 = up.1 goes in
+        omega (arith, more, is)

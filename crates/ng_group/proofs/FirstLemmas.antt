@@ -1,17 +1,22 @@
 -- The first group of a ring, which stays in it or leaves it.
-use Rattle.std.proofs.Common.{◌≡◌, ◌≢◌, ℕ, ◌+◌, ◌<◌, false, List, [], ◌∷◌, Contains, Some, refl, sym, ap, ◌∙◌, subst, inl, inr}
+use Rattle.std.proofs.Common.{◌≡◌, ◌≢◌, ℕ, ◌+◌, ◌%◌, ◌^◌, ◌<◌, false, List, [], ◌∷◌, Contains, Some, refl, sym, ap, ◌∙◌, subst, inl, inr, arith}
 use Rattle.std.specs.Prelude.{IfSome, None, Option}
+use Rattle.std.specs.Int.{trailing_zeros, w32}
 use Rattle.std.specs.List.{slice_get}
+use Rattle.std.proofs.lemmas.Nat.Bits.{bit_at-trailing_zeros}
 use Rattle.ng_mapper.specs.Runs as mapper
 use Rattle.ng_mapper.specs.Mapping.{Span}
 use Rattle.ng_mapper.specs.declared.refusals.Refusals.{Refusals}
 use Rattle.ng_lists.specs.Rings.{RingTable, ring_of, without}
 use Rattle.ng_lists.proofs.MemberLemmas.{Contains-first}
 use Rattle.ng_view.specs.Lists.{Among}
-use Rattle.ng_view.specs.LockSteps.{others}
+use Rattle.ng_view.specs.LockSteps.{others, read_bits}
 use Rattle.ng_view.specs.declared.view.Start.{Start}
 use Rattle.ng_view.specs.declared.view.View.{View}
 use Rattle.ng_view.specs.Notes.{NotesRing}
+use Rattle.ng_serve.specs.Reads.{AllBare}
+use Rattle.ng_serve.proofs.Looks.{is_read}
+use Rattle.ng_serve.proofs.Readings.{among_left}
 use Rattle.ng_ledger.specs.Rings.{AreRinged, IsBare, IsIn, IsTable, left}
 use Rattle.ng_ledger.proofs.BareLemmas.{bare_left}
 use Rattle.ng_ledger.proofs.RingLemmas.{leave}
@@ -20,7 +25,7 @@ use Rattle.ng_ledger.proofs.TableLemmas.{first_is}
 use Rattle.ng_group.specs.Serving.{OnlyRing, StartsWalk}
 use Rattle.ng_group.specs.States.{State, Working}
 use Rattle.ng_group.proofs.WorkingLemmas.{only_works}
-use Rattle.ng_group.proofs.ServingLemmas.{noted_avail, noted_came, noted_held, noted_leaves, noted_search, noted_stays, only_here, only_seat}
+use Rattle.ng_group.proofs.ServingLemmas.{live_at, noted_avail, noted_came, noted_held, noted_leaves, noted_search, noted_stays, only_here, only_seat}
 
 -- ---- the first group stays in its ring, or leaves it
 pub record Walks {M P : Type 0} (start : Start) (span : M → Span) (runs : M → List mapper.Run) (refused : M → Refusals) (class first : ℕ) (before after : State M P) : Type 0 where
@@ -28,10 +33,20 @@ pub record Walks {M P : Type 0} (start : Start) (span : M → Span) (runs : M �
   pub only : OnlyRing class before after
   pub walk : StartsWalk class first before after
 
+-- a freed mask that isn't 0 has a bit, which is noted
+some_marked : (v w : View) (first n : ℕ) → n < 2 ^ 32 → n ≢ 0 → NotesRing v first false n w → (i : ℕ) × Among {A = ℕ × ℕ} (first, i) w.desk.set_freed
+some_marked v w first n fits some notes =
+    let bit = bit_at-trailing_zeros w32 n (omega (arith, some)) fits in (
+      trailing_zeros w32 n,
+      subst (λ (x : View). Among {A = ℕ × ℕ} (first, trailing_zeros w32 n) x.desk.set_freed) (sym notes.view)
+          (among_left (read_bits first n) v.desk.set_freed (first, trailing_zeros w32 n) (is_read first n (trailing_zeros w32 n) bit.0 bit.1)),
+    )
+
 pub first_stays : {M P : Type 0} (start : Start) (span : M → Span) (runs : M → List mapper.Run) (refused : M → Refusals) (s now : State M P) (class first n : ℕ) (w : View)
-    → s ≡ now → IsBare now.seat.desk.zero_avail now.rings class → n ≢ 0 → NotesRing s.seat first false n w → Working start span runs refused now
+    → s ≡ now → class < 48 → slice_get (ring_of now.rings class) 0 ≡ Some first → IsBare now.seat.desk.zero_avail now.rings class → n ≢ 0
+    → NotesRing s.seat first false n w → Working start span runs refused now
     → Walks start span runs refused class first now (record s { seat = w })
-first_stays {M} {P} start span runs refused s now class first n w same bare some notes works =
+first_stays {M} {P} start span runs refused s now class first n w same known begins bare some notes works =
     subst (λ (t : State M P). Walks start span runs refused class first t (record s { seat = w })) same
     (stays (subst (λ (t : State M P). IsBare t.seat.desk.zero_avail t.rings class) (sym same) bare) (subst (λ (t : State M P). Working start span runs refused t) (sym same) works))
   where
@@ -46,13 +61,18 @@ first_stays {M} {P} start span runs refused s now class first n w same bare some
         subst (λ (ls : List ℕ). AreRinged s.seat.desk.groups ls w.desk.zero_avail s.rings) (sym (noted_stays s.seat w first n some notes))
         (subst (λ (z : List ℕ). AreRinged s.seat.desk.groups s.seat.desk.listed z s.rings) (sym (noted_avail s.seat w first n notes)) are)
 
+    marked : (i : ℕ) × Among {A = ℕ × ℕ} (first, i) w.desk.set_freed
+    marked =
+        let live = live_at start span runs refused s now class first same works known (Contains-first (ring_of now.rings class) first (sym begins)) in
+        some_marked s.seat w first n (notes.tells live.group live.there live.of_meta).fits some notes
+
     stays : IsBare s.seat.desk.zero_avail s.rings class → Working start span runs refused s → Walks start span runs refused class first s (record s { seat = w })
     stays bare' works' = record {
       working = only_works start span runs refused class s (record s { seat = w }) only refl (ringed works'.stands.ringed) works';
       only = only;
       walk = record {
         came = noted_came s.seat w first n notes;
-        left = inl refl;
+        left = inl (refl, marked);
         bare = λ m in'. kept m (bare' m in');
         held = noted_held s.seat w first n notes;
         bounces = refl;
@@ -90,6 +110,10 @@ first_leaves {M} {P} start span runs refused s now class first n w t same is kno
         (subst (λ (z : List ℕ). AreRinged s.seat.desk.groups (others first s.seat.desk.listed) z (left s.rings class first)) (sym (noted_avail s.seat w first 0 notes))
         (leave s.seat.desk.groups s.seat.desk.listed s.seat.desk.zero_avail s.rings class first is in' are))
 
+    only_bare : AllBare ((first + 28, 0) ∷ [])
+    only_bare word (inl is') = inr (ap (λ (x : ℕ × ℕ). x.1 % 2 ^ 32) is')
+    only_bare word (inr none') = absurd none'
+
     leaves : slice_get (ring_of s.rings class) 0 ≡ Some first → IsBare s.seat.desk.zero_avail s.rings class → Working start span runs refused s → Walks start span runs refused class first s after
     leaves begins' bare' works' =
         let in' : IsIn s.rings class first = Contains-first (ring_of s.rings class) first (sym begins') in
@@ -98,7 +122,7 @@ first_leaves {M} {P} start span runs refused s now class first n w t same is kno
           only = only in';
           walk = record {
             came = record { words = (first + 28, 0) ∷ []; readings = ap (λ (u : View). u.readings) notes.view };
-            left = inr (first_is (ring_of s.rings class) first begins' ∙ ap (λ (xs : List ℕ). first ∷ xs) (sym (left_first s.rings class first begins')), inl refl);
+            left = inr (first_is (ring_of s.rings class) first begins' ∙ ap (λ (xs : List ℕ). first ∷ xs) (sym (left_first s.rings class first begins')), inl refl, only_bare);
             bare = λ m there. kept m (bare_left s.seat.desk.groups s.seat.desk.listed s.seat.desk.zero_avail s.rings class first is begins' works'.stands.ringed m there);
             held = noted_held s.seat w first 0 notes;
             bounces = refl;

@@ -1,21 +1,33 @@
 -- What a call builds and asks the mapper for that goes on to a group of its own, by what its calls did.
-use Rattle.std.proofs.Common.{◌≡◌, ◌≢◌, ◌⊎◌, ℕ, ◌+◌, ◌%◌, ◌^◌, ◌<◌, Bool, true, not, List, ◌∷◌, refl, sym, ap, ◌∙◌, subst, ⊎_elim, inl, inr, arith}
+use Rattle.std.proofs.Common.{◌≡◌, ◌≢◌, ◌⊎◌, ℕ, ◌+◌, ◌%◌, ◌^◌, ◌<◌, ◌≤◌, Bool, true, not, List, [], ◌∷◌, ◌++◌, Some, append_assoc, refl, sym, ap, ◌∙◌, subst, ⊎_elim, inl, inr, arith}
+use Rattle.std.specs.List.{slice_get}
 use Rattle.std.proofs.lemmas.Bool.{cases_eq}
 use Rattle.ng_lists.specs.Rings.{RingTable, ring_of}
 use Rattle.ng_view.specs.Notes.{plain_run}
+use Rattle.ng_policy.specs.Bounce.{Bounces, accounted, decayed, stepped}
 use Rattle.ng_policy.specs.declared.ask.Ask.{Ask}
 use Rattle.ng_serve.specs.Reads.{IsBareIn}
+use Rattle.ng_serve.proofs.Readings.{all_then}
 use Rattle.ng_shelf.specs.Shape.{IsNestedSize, shape_of}
 use Rattle.ng_view.specs.Lists.{Among, count_of}
 use Rattle.ng_view.specs.declared.view.Group.{Group}
 use Rattle.ng_view.specs.declared.view.Run.{Run}
 use Rattle.ng_view.specs.declared.view.View.{View}
-use Rattle.ng_group.specs.Asking.{BuildsWanted, HasSlots, IsAreaWanted, IsAsked, IsCarried, IsCounted, IsGroupWanted, IsRunWanted, IsWalked, LeavesHeap, RefusedWanted, Want, WantsArea, WantsRun, areas, carried_bytes, group_runs}
+use Rattle.ng_group.specs.Asking.{AreRising, AsksRun, GetsByRun, GetsFromRing, GetsSlot, HasSlots, IsAreaWanted, IsAsked, IsCarried, IsGroupWanted, IsLastWanted, IsRunWanted, IsWalked, LeavesHeap, RefusedWanted, Want, WantsArea, WantsRun, areas, carried_bytes, group_runs}
 use Rattle.ng_group.specs.Building.{HasBuilt, LeavesAll}
 use Rattle.ng_group.specs.States.{State}
 use Rattle.ng_group.specs.Steps.{Came}
-use Rattle.ng_group.proofs.WantLemmas.{Seeks, TakesArea, TakesFree, area_first, area_more, bare_left, bare_right, came_on, last_first, last_more, no_area, run_more, runs_of}
-use Rattle.ng_group.proofs.AskingLemmas.{walked_here}
+use Rattle.ng_group.proofs.WantLemmas.{Seeks, TakesArea, TakesFree, area_first, area_more, bare_left, bare_right, came_on, carried_moved, last_first, last_more, no_area, run_more, runs_of}
+use Rattle.ng_group.proofs.AskingLemmas.{one_zero, walked_here}
+use Rattle.ng_group.proofs.BuildingLemmas.{carrier_above}
+
+-- ---- lists
+rising_less : (less class : ℕ) (gs : List Group) → less ≤ class → AreRising class gs → AreRising less gs
+rising_less less class [] below rising = tt
+rising_less less class (g ∷ gs) below (above, rest) = (omega (arith, below, above), rest)
+
+in_four : (ws xs ys zs : List (ℕ × ℕ)) → ws ++ ((xs ++ ys) ++ zs) ≡ (ws ++ xs) ++ (ys ++ zs)
+in_four ws xs ys zs = ap (λ (l : List (ℕ × ℕ)). ws ++ l) (append_assoc xs ys zs) ∙ sym (append_assoc ws xs (ys ++ zs))
 
 module _ {M P : Type 0} (counts : Ask → ℕ → Type 0) (s mid : State M P) (class bytes : ℕ) (sought : Seeks class s mid) (took : TakesFree s mid ⊎ TakesArea s mid)
     (w : Want) (of_class : w.class ≡ class) (of_bytes : w.bytes ≡ bytes) where
@@ -43,6 +55,13 @@ module _ {M P : Type 0} (counts : Ask → ℕ → Type 0) (s mid : State M P) (c
       omega (arith, all, none))
       took
 
+  -- no run went
+  more_runs : (new : List Run) × (runs_of mid ≡ new ++ runs_of s)
+  more_runs = ⊎_elim
+      (λ (free : TakesFree s mid). ([], free.runs))
+      (λ (area : TakesArea s mid). (area.run ∷ [], area.runs))
+      took
+
   -- a run that was noted then
   run_was : (words : List (ℕ × ℕ)) → ((m : ℕ) → IsBareIn sought.came.words m → IsBareIn words m) → (r : Run) → Among r (runs_of mid) → IsRunWanted counts s words class bytes r
   run_was words more r there = ⊎_elim
@@ -66,20 +85,37 @@ module _ {M P : Type 0} (counts : Ask → ℕ → Type 0) (s mid : State M P) (c
 
     pub builds_run : (after : State M P) (base meta slots : ℕ) → Came mid.seat after.seat → slots ≡ (shape_of w.ask w.bytes w.count).count → HasBuilt meta class slots mid after
         → runs_of after ≡ plain_run base (shape_of w.ask w.bytes w.count).pages ∷ runs_of mid → after.counter ≡ (mid.counter + 1) % 2 ^ 64
-        → BuildsWanted counts s after class bytes
-    builds_run after base meta slots last slots_are built runs counter = record {
-      came = came;
+        → after.bounces ≡ stepped (accounted mid.bounces class) → GetsSlot counts s after class bytes
+    unfolding wants_run
+    builds_run after base meta slots last slots_are built runs counter bounces = record {
+      early = sought.came.words;
+      late = last.words;
+      readings = (came_on s.seat mid.seat after.seat sought.came last).readings;
+      all = sought.all;
+      new_runs = plain_run base (shape_of w.ask w.bytes w.count).pages ∷ more_runs.0;
+      runs_are = runs ∙ ap (λ (rs : List Run). plain_run base (shape_of w.ask w.bytes w.count).pages ∷ rs) more_runs.1;
       runs = λ r there. run r (subst (λ (rs : List Run). Among r rs) runs there);
+      one_area = area_came words same_words (runs_of after) (ap areas runs ∙ none_more);
+      new_groups = built.group ∷ [];
+      groups_are = built.groups ∙ ap (λ (gs : List Group). built.group ∷ gs) sought.groups;
       groups = λ g there. group g (subst (λ (gs : List Group). Among g gs) built.groups there);
-      one_area = area_came came.words more (runs_of after) (ap areas runs ∙ none_more);
-      counted = inr (one_run, counter ∙ ap (λ n. (n + 1) % 2 ^ 64) sought.counter);
+      rising = (let tag : built.group.tag ≡ class + 1 = built.of_class in omega (arith, tag), tt);
+      source = inr (record {
+        pages = (shape_of w.ask w.bytes w.count).pages;
+        wants = wants_run words same_words;
+        runs = one_run;
+        counter = counter ∙ ap (λ n. (n + 1) % 2 ^ 64) sought.counter;
+        bounces = bounces
+            ∙ ap (λ (b : Bounces). stepped (accounted b class)) sought.bounces
+            ∙ ap (λ k. stepped (accounted s.bounces k)) (sym of_class);
+      });
     }
       where
-        came : Came s.seat after.seat
-        came = came_on s.seat mid.seat after.seat sought.came last
+        words : List (ℕ × ℕ)
+        words = sought.came.words
 
-        more : (m : ℕ) → IsBareIn sought.came.words m → IsBareIn came.words m
-        more m = bare_left sought.came.words last.words m
+        same_words : (m : ℕ) → IsBareIn words m → IsBareIn words m
+        same_words m bare = bare
 
         none_more : areas (plain_run base (shape_of w.ask w.bytes w.count).pages ∷ runs_of mid) ≡ areas (runs_of mid)
         none_more = omega arith
@@ -89,9 +125,9 @@ module _ {M P : Type 0} (counts : Ask → ℕ → Type 0) (s mid : State M P) (c
             let all : group_runs (runs_of after) ≡ 1 + group_runs (runs_of mid) = ap group_runs runs in
             omega (arith, all, none_grouped)
 
-        run : (r : Run) → Among r (plain_run base (shape_of w.ask w.bytes w.count).pages ∷ runs_of mid) → IsRunWanted counts s came.words class bytes r
-        run r (inl same) = inr (inr (ap (λ (x : Run). x.area) same, subst (λ (x : Run). WantsRun counts s came.words class bytes x.pages) (sym same) (wants_run came.words more)))
-        run r (inr was) = run_was came.words more r was
+        run : (r : Run) → Among r (plain_run base (shape_of w.ask w.bytes w.count).pages ∷ runs_of mid) → IsRunWanted counts s words class bytes r
+        run r (inl same) = inr (inr (ap (λ (x : Run). x.area) same, subst (λ (x : Run). WantsRun counts s words class bytes x.pages) (sym same) (wants_run words same_words)))
+        run r (inr was) = run_was words same_words r was
 
         slots_of : HasSlots w built.group
         slots_of = record {
@@ -100,32 +136,43 @@ module _ {M P : Type 0} (counts : Ask → ℕ → Type 0) (s mid : State M P) (c
           mapped = λ wide. built.of_slots ∙ slots_are;
         }
 
-        group : (g : Group) → Among g (built.group ∷ mid.seat.desk.groups) → IsGroupWanted counts s came.words class bytes g
-        group g (inl same) = inr (w, last_first counts s mid class bytes sought w of_class of_bytes came.words more asked, subst (λ (x : Group). HasSlots w x) (sym same) slots_of)
+        group : (g : Group) → Among g (built.group ∷ mid.seat.desk.groups) → IsGroupWanted counts s words class bytes g
+        group g (inl same) = inr (w, last_first counts s mid class bytes sought w of_class of_bytes words same_words asked, subst (λ (x : Group). HasSlots w x) (sym same) slots_of)
         group g (inr was) = inl (subst (λ (gs : List Group). Among g gs) sought.groups was)
 
     -- its run was refused
-    module _ (after : State M P) (inner : State M P) (left : LeavesAll mid inner) (last : Came mid.seat inner.seat) (seat : after.seat ≡ inner.seat) (rings : after.rings ≡ inner.rings) (usage : after.usage ≡ inner.usage)
+    module _ (after : State M P) (inner : State M P) (left : LeavesAll mid inner) (seat : after.seat ≡ inner.seat) (rings : after.rings ≡ inner.rings) (usage : after.usage ≡ inner.usage)
         (counter : after.counter ≡ inner.counter) where
+      abbrev noted : List (ℕ × ℕ)
+      noted = (0, left.noted.0) ∷ []
+
       abbrev run_came : Came s.seat after.seat
-      run_came = came_on s.seat mid.seat after.seat sought.came (record { words = last.words; readings = ap (λ (v : View). v.readings) seat ∙ last.readings })
+      run_came = came_on s.seat mid.seat after.seat sought.came (record { words = noted; readings = ap (λ (v : View). v.readings) seat ∙ left.noted.1 })
 
       run_more_words : (m : ℕ) → IsBareIn sought.came.words m → IsBareIn run_came.words m
-      run_more_words m = bare_left sought.came.words last.words m
+      run_more_words m = bare_left sought.came.words noted m
 
       runs_left : runs_of after ≡ runs_of mid
       runs_left = ap (λ (v : View). v.desk.layout.runs) seat ∙ ap (λ (v : View). v.desk.layout.runs) left.seat
 
-      pub run_cause : (pages : ℕ) → pages ≡ (shape_of w.ask w.bytes w.count).pages → RefusedWanted counts s after class bytes pages
-      run_cause pages same = record {
+      pub run_cause : (pages : ℕ) → pages ≡ (shape_of w.ask w.bytes w.count).pages → after.bounces ≡ stepped (accounted mid.bounces class)
+          → RefusedWanted counts s after class bytes pages
+      unfolding wants_run
+      run_cause pages same bounces = record {
         came = run_came;
         one_area = area_came run_came.words run_more_words (runs_of after) (ap areas runs_left);
-        cause = inr (subst (λ n. WantsRun counts s run_came.words class bytes n) (sym same) (wants_run run_came.words run_more_words));
+        cause = inr (subst (λ n. AsksRun counts s after run_came.words class bytes n) (sym same) (
+          wants_run run_came.words run_more_words,
+          bounces
+              ∙ ap (λ (b : Bounces). stepped (accounted b class)) sought.bounces
+              ∙ ap (λ k. stepped (accounted s.bounces k)) (sym of_class),
+        ));
       }
 
       pub run_leaves : LeavesHeap s after
       run_leaves = record {
         came = run_came;
+        all = all_then sought.came.words noted sought.all (one_zero left.noted.0);
         groups = ap (λ (v : View). v.desk.groups) seat ∙ ap (λ (v : View). v.desk.groups) left.seat ∙ sought.groups;
         nests = ap (λ (v : View). v.desk.layout.nests) seat ∙ ap (λ (v : View). v.desk.layout.nests) left.seat ∙ sought.nests;
         usage = usage ∙ left.usage ∙ sought.usage;
@@ -176,34 +223,95 @@ module _ {M P : Type 0} (counts : Ask → ℕ → Type 0) (s mid : State M P) (c
       group_then g (inl noted) = inl (subst (λ (gs : List Group). Among g gs) sought.groups noted)
       group_then g (inr (v, last, slots)) = inr (v, last_more counts s mid class bytes sought w of_class of_bytes words more next carried rest reread v last, slots)
 
-    counted_then : IsCounted mid inner → (after : State M P) → runs_of after ≡ runs_of inner → after.counter ≡ inner.counter → IsCounted s after
-    counted_then (inl (runs, counter)) after same is = inl (ap group_runs same ∙ runs ∙ none_grouped, is ∙ counter ∙ sought.counter)
-    counted_then (inr (runs, counter)) after same is = inr (
-      ap group_runs same ∙ runs ∙ ap (λ n. n + 1) none_grouped,
-      is ∙ counter ∙ ap (λ n. (n + 1) % 2 ^ 64) sought.counter,
-    )
+    -- what the slot of the carrier came out of
+    module _ (early late words behind : List (ℕ × ℕ)) (more : (m : ℕ) → IsBareIn sought.came.words m → IsBareIn words m) (reread : (m : ℕ) → IsBareIn early m → IsBareIn words m)
+        (known : class < 48) (after : State M P) (runs : runs_of after ≡ runs_of inner) (counter : after.counter ≡ inner.counter) (bounces : after.bounces ≡ inner.bounces) where
+      ring_then : GetsFromRing counts mid inner early late next (carried_bytes w) → GetsFromRing counts s after words (late ++ behind) class bytes
+      ring_then from =
+          let higher : w.class < next = carrier_above w.class w.count next (omega (arith, of_class, known)) carried.asked.allowed.some carried.least in
+          let reached : next ≤ from.sought = from.above in
+          record {
+            sought = from.sought;
+            is_sought = inr (⊎_elim
+                (λ (here : from.sought ≡ next). (
+                  w,
+                  last_first counts s mid class bytes sought w of_class of_bytes words more carried.asked,
+                  subst (λ k. IsCarried counts s w k) (sym here) carried,
+                ))
+                (λ (later : (v : Want) × IsLastWanted counts mid early next (carried_bytes w) v × IsCarried counts mid v from.sought). (
+                  later.0,
+                  last_more counts s mid class bytes sought w of_class of_bytes words more next carried early reread later.0 later.1,
+                  carried_moved counts s mid later.0 from.sought sought.usage sought.bounces later.2,
+                ))
+                from.is_sought);
+            above = omega (arith, higher, of_class, reached);
+            serves = record {
+              first = from.serves.first;
+              begins = subst (λ (ring : List ℕ). slice_get ring 0 ≡ Some from.serves.first)
+                  (sought.rings from.sought (λ same. omega (arith, higher, of_class, reached, same))) from.serves.begins;
+              word = from.serves.word;
+              rest = from.serves.rest ++ behind;
+              words_are = ap (λ (ws : List (ℕ × ℕ)). ws ++ behind) from.serves.words_are;
+              bounces = ⊎_elim
+                  (λ (kept : (0 < from.serves.word % 2 ^ 32) × (inner.bounces ≡ mid.bounces)). inl (kept.0, bounces ∙ kept.1 ∙ sought.bounces))
+                  (λ (less : (from.serves.word % 2 ^ 32 ≡ 0) × (inner.bounces ≡ decayed mid.bounces from.sought)).
+                  inr (less.0, bounces ∙ less.1 ∙ ap (λ (b : Bounces). decayed b from.sought) sought.bounces))
+                  from.serves.bounces;
+            };
+            runs = ap group_runs runs ∙ from.runs ∙ none_grouped;
+            counter = counter ∙ from.counter ∙ sought.counter;
+          }
 
-    pub builds_nested : (after : State M P) (meta : ℕ) → BuildsWanted counts mid inner next (carried_bytes w) → Came inner.seat after.seat → HasBuilt meta class w.count inner after
-        → runs_of after ≡ runs_of inner → after.counter ≡ inner.counter → BuildsWanted counts s after class bytes
-    builds_nested after meta inside last built runs counter = record {
-      came = came;
-      runs = λ r there. run_then inside.came.words came.words more reread r (inside.runs r (subst (λ (rs : List Run). Among r rs) runs there));
+      mapped_then : GetsByRun counts mid inner early next (carried_bytes w) → GetsByRun counts s after words class bytes
+      unfolding run_more
+      mapped_then by = record {
+        pages = by.pages;
+        wants = run_more counts s mid class bytes sought w of_class of_bytes words more next carried early reread by.pages by.wants;
+        runs = ap group_runs runs ∙ by.runs ∙ ap (λ n. n + 1) none_grouped;
+        counter = counter ∙ by.counter ∙ ap (λ n. (n + 1) % 2 ^ 64) sought.counter;
+        bounces = bounces ∙ by.bounces ∙ ap (λ (b : Bounces). stepped (accounted b by.wants.want.class)) sought.bounces;
+      }
+
+    pub builds_nested : (known : class < 48) (after : State M P) (meta : ℕ) → GetsSlot counts mid inner next (carried_bytes w) → Came inner.seat after.seat
+        → HasBuilt meta class w.count inner after → runs_of after ≡ runs_of inner → after.counter ≡ inner.counter → after.bounces ≡ inner.bounces
+        → GetsSlot counts s after class bytes
+    builds_nested known after meta inside last built runs counter bounces = record {
+      early = words;
+      late = inside.late ++ last.words;
+      readings = (came_on s.seat mid.seat after.seat sought.came rest).readings
+          ∙ ap (λ (ws : List (ℕ × ℕ)). s.seat.readings ++ ws) (in_four sought.came.words inside.early inside.late last.words);
+      all = all_then sought.came.words inside.early sought.all inside.all;
+      new_runs = inside.new_runs ++ more_runs.0;
+      runs_are = runs ∙ inside.runs_are ∙ ap (λ (rs : List Run). inside.new_runs ++ rs) more_runs.1
+          ∙ sym (append_assoc inside.new_runs more_runs.0 (runs_of s));
+      runs = λ r there. run_then inside.early words more reread r (inside.runs r (subst (λ (rs : List Run). Among r rs) runs there));
+      one_area = area_then inside.early words more reread inside.one_area (runs_of after) runs;
+      new_groups = built.group ∷ inside.new_groups;
+      groups_are = built.groups ∙ ap (λ (gs : List Group). built.group ∷ gs) (inside.groups_are ∙ ap (λ (gs : List Group). inside.new_groups ++ gs) sought.groups);
       groups = λ g there. group g (subst (λ (gs : List Group). Among g gs) built.groups there);
-      one_area = area_then inside.came.words came.words more reread inside.one_area (runs_of after) runs;
-      counted = counted_then inside.counted after runs counter;
+      rising =
+          let tag : built.group.tag ≡ class + 1 = built.of_class in
+          let higher : w.class < next = carrier_above w.class w.count next (omega (arith, of_class, known)) carried.asked.allowed.some carried.least in
+          (omega (arith, tag), rising_less built.group.tag next inside.new_groups (omega (arith, tag, higher, of_class)) inside.rising);
+      source = ⊎_elim
+          (λ (ring : GetsFromRing counts mid inner inside.early inside.late next (carried_bytes w)).
+          inl (ring_then inside.early inside.late words last.words more reread known after runs counter bounces ring))
+          (λ (by : GetsByRun counts mid inner inside.early next (carried_bytes w)).
+          inr (mapped_then inside.early inside.late words last.words more reread known after runs counter bounces by))
+          inside.source;
     }
       where
         rest : Came mid.seat after.seat
-        rest = came_on mid.seat inner.seat after.seat inside.came last
+        rest = came_on mid.seat inner.seat after.seat (record { words = inside.early ++ inside.late; readings = inside.readings }) last
 
-        came : Came s.seat after.seat
-        came = came_on s.seat mid.seat after.seat sought.came rest
+        words : List (ℕ × ℕ)
+        words = sought.came.words ++ inside.early
 
-        more : (m : ℕ) → IsBareIn sought.came.words m → IsBareIn came.words m
-        more m = bare_left sought.came.words rest.words m
+        more : (m : ℕ) → IsBareIn sought.came.words m → IsBareIn words m
+        more m = bare_left sought.came.words inside.early m
 
-        reread : (m : ℕ) → IsBareIn inside.came.words m → IsBareIn came.words m
-        reread m bare = bare_right sought.came.words rest.words m (bare_left inside.came.words last.words m bare)
+        reread : (m : ℕ) → IsBareIn inside.early m → IsBareIn words m
+        reread m = bare_right sought.came.words inside.early m
 
         slots_of : HasSlots w built.group
         slots_of = record {
@@ -212,9 +320,9 @@ module _ {M P : Type 0} (counts : Ask → ℕ → Type 0) (s mid : State M P) (c
           mapped = λ wide. absurd (wide carried.small);
         }
 
-        group : (g : Group) → Among g (built.group ∷ inner.seat.desk.groups) → IsGroupWanted counts s came.words class bytes g
-        group g (inl same) = inr (w, last_first counts s mid class bytes sought w of_class of_bytes came.words more carried.asked, subst (λ (x : Group). HasSlots w x) (sym same) slots_of)
-        group g (inr was) = group_then inside.came.words came.words more reread g (inside.groups g was)
+        group : (g : Group) → Among g (built.group ∷ inner.seat.desk.groups) → IsGroupWanted counts s words class bytes g
+        group g (inl same) = inr (w, last_first counts s mid class bytes sought w of_class of_bytes words more carried.asked, subst (λ (x : Group). HasSlots w x) (sym same) slots_of)
+        group g (inr was) = group_then inside.early words more reread g (inside.groups g was)
 
     -- the slot was refused
     module _ (after : State M P) (seat : after.seat ≡ inner.seat) (rings : after.rings ≡ inner.rings) (usage : after.usage ≡ inner.usage) (counter : after.counter ≡ inner.counter) where
@@ -224,8 +332,10 @@ module _ {M P : Type 0} (counts : Ask → ℕ → Type 0) (s mid : State M P) (c
       runs_inner : runs_of after ≡ runs_of inner
       runs_inner = ap (λ (v : View). v.desk.layout.runs) seat
 
-      pub slot_cause : (pages : ℕ) → RefusedWanted counts mid inner next (carried_bytes w) pages → RefusedWanted counts s after class bytes pages
-      slot_cause pages inside = record {
+      pub slot_cause : (pages : ℕ) → after.bounces ≡ inner.bounces → RefusedWanted counts mid inner next (carried_bytes w) pages
+          → RefusedWanted counts s after class bytes pages
+      unfolding run_more
+      slot_cause pages bounces inside = record {
         came = came;
         one_area = area_then inside.came.words came.words more reread inside.one_area (runs_of after) runs_inner;
         cause = cause inside.cause;
@@ -240,17 +350,24 @@ module _ {M P : Type 0} (counts : Ask → ℕ → Type 0) (s mid : State M P) (c
           reread : (m : ℕ) → IsBareIn inside.came.words m → IsBareIn came.words m
           reread m = bare_right sought.came.words inside.came.words m
 
-          cause : ((pages ≡ 1) × (areas (runs_of inner) ≡ areas (runs_of mid)) × WantsArea counts mid inside.came.words next (carried_bytes w)) ⊎ WantsRun counts mid inside.came.words next (carried_bytes w) pages
-              → ((pages ≡ 1) × (areas (runs_of after) ≡ areas (runs_of s)) × WantsArea counts s came.words class bytes) ⊎ WantsRun counts s came.words class bytes pages
-          cause (inl (page, same, wants)) = ⊎_elim
-              (λ (free : TakesFree s mid). inl (page, ap areas runs_inner ∙ same ∙ ap areas free.runs, area_inside inside.came.words came.words more reread wants))
+          cause : ((pages ≡ 1) × (areas (runs_of inner) ≡ areas (runs_of mid)) × (inner.bounces ≡ mid.bounces) × WantsArea counts mid inside.came.words next (carried_bytes w))
+              ⊎ AsksRun counts mid inner inside.came.words next (carried_bytes w) pages
+              → ((pages ≡ 1) × (areas (runs_of after) ≡ areas (runs_of s)) × (after.bounces ≡ s.bounces) × WantsArea counts s came.words class bytes)
+              ⊎ AsksRun counts s after came.words class bytes pages
+          cause (inl (page, same, kept, wants)) = ⊎_elim
+              (λ (free : TakesFree s mid).
+              inl (page, ap areas runs_inner ∙ same ∙ ap areas free.runs, bounces ∙ kept ∙ sought.bounces, area_inside inside.came.words came.words more reread wants))
               (λ (area : TakesArea s mid). absurd (impossible area inside.came.words wants))
               took
-          cause (inr wants) = inr (run_more counts s mid class bytes sought w of_class of_bytes came.words more next carried inside.came.words reread pages wants)
+          cause (inr (run, stepped_once)) = inr (
+            run_more counts s mid class bytes sought w of_class of_bytes came.words more next carried inside.came.words reread pages run,
+            bounces ∙ stepped_once ∙ ap (λ (b : Bounces). stepped (accounted b run.want.class)) sought.bounces,
+          )
 
       pub slot_leaves : LeavesHeap mid inner → ((words : List (ℕ × ℕ)) × IsAreaWanted counts mid inner words next (carried_bytes w)) → class < 48 → ring_of inner.rings class ≡ ring_of mid.rings class → LeavesHeap s after
       slot_leaves inside area_inner known below = record {
         came = came;
+        all = all_then sought.came.words inside.came.words sought.all inside.all;
         groups = ap (λ (v : View). v.desk.groups) seat ∙ inside.groups ∙ sought.groups;
         nests = ap (λ (v : View). v.desk.layout.nests) seat ∙ inside.nests ∙ sought.nests;
         usage = usage ∙ inside.usage ∙ sought.usage;

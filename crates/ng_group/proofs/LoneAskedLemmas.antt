@@ -1,8 +1,9 @@
 -- What a call for a block that is a group by itself builds and asks for.
-use Rattle.std.proofs.Common.{◌≡◌, ◌⊎◌, ℕ, ◌≤◌, max, List, true, [], ◌∷◌, refl, sym, ap, subst, ◌∙◌, ⊎_elim, inl, inr, arith}
+use Rattle.std.proofs.Common.{◌≡◌, ◌⊎◌, ℕ, ◌≤◌, max, List, true, [], ◌∷◌, ◌++◌, refl, sym, ap, subst, ◌∙◌, ⊎_elim, inl, inr, arith}
 use Rattle.ng_lists.specs.Rings.{RingTable, ring_of}
 use Rattle.ng_mapper.specs.Runs as mapper
 use Rattle.ng_mapper.specs.declared.refusals.Refusals.{Refusals}
+use Rattle.ng_policy.specs.Bounce.{stepped}
 use Rattle.ng_shelf.specs.Stock.{Stock, free_of}
 use Rattle.ng_supply.specs.Metas.{FindsMeta, TakesNext, TakesOfArea, area_run}
 use Rattle.ng_supply.specs.Runs.{RefusesRun}
@@ -14,9 +15,12 @@ use Rattle.ng_group.specs.Asking.{LeavesHeap}
 use Rattle.ng_group.specs.Building.{LeavesAll}
 use Rattle.ng_group.specs.Lone.{BuildsAlone, BuildsLone, IsAreaNeeded, IsLoneRefused}
 use Rattle.ng_group.specs.States.{State}
-use Rattle.ng_group.specs.Steps.{Came, GoesOn}
-use Rattle.ng_group.proofs.SupplyLemmas.{found_goes, found_view, refused_goes}
-use Rattle.ng_group.proofs.WorkingLemmas.{came_then}
+use Rattle.ng_group.specs.Steps.{Came}
+use Rattle.ng_serve.specs.Reads.{AllBare}
+use Rattle.ng_serve.proofs.Readings.{all_then}
+use Rattle.ng_group.proofs.AskingLemmas.{one_zero, supply_came}
+use Rattle.ng_group.proofs.SupplyLemmas.{found_view}
+use Rattle.ng_group.proofs.WantLemmas.{came_on}
 
 -- ---- the most refused pages
 -- rose to no more than those of the block, where those of an area or of the block were refused
@@ -29,9 +33,10 @@ most_same was mid now pages is same = omega arith
 -- ---- a run was refused, and of the books all stayed
 pub lone_left : {M P : Type 0} (s s' e : State M P) → s ≡ s'
     → e.seat ≡ record s.seat { excuses = e.seat.excuses; readings = e.seat.readings; desk = record s.seat.desk { refusals = e.seat.desk.refusals } }
+    → ((found : ℕ) × (e.seat.readings ≡ s.seat.readings ++ (0, found) ∷ []))
     → e.rings ≡ s.rings → e.parents ≡ s.parents → e.usage ≡ s.usage → e.counter ≡ s.counter → LeavesAll s' e
-lone_left {M = M} {P = P} s s' e same seat rings parents usage counter =
-    subst (λ (x : State M P). LeavesAll x e) same (record { seat = seat; rings = rings; parents = parents; usage = usage; counter = counter })
+lone_left {M = M} {P = P} s s' e same seat noted rings parents usage counter =
+    subst (λ (x : State M P). LeavesAll x e) same (record { seat = seat; noted = noted; rings = rings; parents = parents; usage = usage; counter = counter })
 
 -- ---- a meta was found
 module _ {M P : Type 0} (start : Start) (runs : M → List mapper.Run) (s s' : State M P) (same : s ≡ s') (meta : ℕ) (w : View) (stock : Stock) (now : M)
@@ -57,9 +62,12 @@ module _ {M P : Type 0} (start : Start) (runs : M → List mapper.Run) (s s' : S
   }
   view = found_view start s.seat (runs s.mapper) s.stock meta w (runs now) stock finds
 
+  found_came : (c : Came s.seat w) × AllBare c.words
+  found_came = supply_came start (runs s.mapper) (runs now) s.seat s.stock meta w stock finds
+
   -- and the group came
-  pub lone_builds : (bytes : ℕ) (after : State M P) → BuildsAlone meta (pages_for bytes) mid after → BuildsLone meta s' after bytes
-  lone_builds bytes after built = subst (λ (x : State M P). BuildsLone meta x after bytes) same (record {
+  pub lone_builds : (bytes : ℕ) (after : State M P) → BuildsAlone meta (pages_for bytes) mid after → after.bounces ≡ stepped s.bounces → BuildsLone meta s' after bytes
+  lone_builds bytes after built steps = subst (λ (x : State M P). BuildsLone meta x after bytes) same (record {
     group = built.group;
     of_meta = built.of_meta;
     of_class = built.of_class;
@@ -70,6 +78,7 @@ module _ {M P : Type 0} (start : Start) (runs : M → List mapper.Run) (s s' : S
     area = needed;
     run = built.run;
     counter = built.counter;
+    bounces = steps;
   })
 
   -- or its run was refused
@@ -77,9 +86,9 @@ module _ {M P : Type 0} (start : Start) (runs : M → List mapper.Run) (s s' : S
     same_runs : after.seat.desk.layout.runs ≡ w.desk.layout.runs
     same_runs = ap (λ (x : View). x.desk.layout.runs) (seat ∙ left.seat)
 
-    cause : (bytes pages : ℕ) → pages ≡ pages_for bytes → IsLoneRefused s' after bytes pages
-    cause bytes pages is = subst (λ (x : State M P). IsLoneRefused x after bytes pages) same
-        (inr (is, subst (IsAreaNeeded s) (sym same_runs) needed))
+    cause : (bytes pages : ℕ) → pages ≡ pages_for bytes → after.bounces ≡ stepped s.bounces → IsLoneRefused s' after bytes pages
+    cause bytes pages is steps = subst (λ (x : State M P). IsLoneRefused x after bytes pages) same
+        (inr (is, steps, subst (IsAreaNeeded s) (sym same_runs) needed))
 
     left_runs : (after.seat.desk.layout.runs ≡ s.seat.desk.layout.runs)
         ⊎ ((r : Run) × (r.area ≡ true) × (r.pages ≡ 1) × (after.seat.desk.layout.runs ≡ r ∷ s.seat.desk.layout.runs))
@@ -89,14 +98,17 @@ module _ {M P : Type 0} (start : Start) (runs : M → List mapper.Run) (s s' : S
         inr (some.1.0, some.1.1, some.1.2, same_runs ∙ some.1.3))
         needed
 
-    came : GoesOn w inner.seat → Came s.seat after.seat
-    came on =
-        let first : Came s.seat w = (found_goes start s.seat (runs s.mapper) s.stock meta w (runs now) stock finds).came in
-        subst (Came s.seat) (sym seat) (came_then s.seat w inner.seat first on.came)
+    -- word 0 alone was read
+    came : (c : Came s.seat after.seat) × AllBare c.words
+    came = (
+      came_on s.seat w after.seat found_came.0 (record { words = (0, left.noted.0) ∷ []; readings = ap (λ (x : View). x.readings) seat ∙ left.noted.1 }),
+      all_then found_came.0.words ((0, left.noted.0) ∷ []) found_came.1 (one_zero left.noted.0),
+    )
 
-    pub lone_leaves : GoesOn w inner.seat → after.rings ≡ inner.rings → after.usage ≡ inner.usage → after.counter ≡ inner.counter → LeavesHeap s' after
-    lone_leaves on rings usage counter = subst (λ (x : State M P). LeavesHeap x after) same (record {
-      came = came on;
+    pub lone_leaves : after.rings ≡ inner.rings → after.usage ≡ inner.usage → after.counter ≡ inner.counter → LeavesHeap s' after
+    lone_leaves rings usage counter = subst (λ (x : State M P). LeavesHeap x after) same (record {
+      came = came.0;
+      all = came.1;
       groups = ap (λ (x : View). x.desk.groups) (seat ∙ left.seat) ∙ ap (λ (x : View). x.desk.groups) view;
       nests = ap (λ (x : View). x.desk.layout.nests) (seat ∙ left.seat) ∙ ap (λ (x : View). x.desk.layout.nests) view;
       usage = usage ∙ left.usage;
@@ -105,9 +117,9 @@ module _ {M P : Type 0} (start : Start) (runs : M → List mapper.Run) (s s' : S
       runs = left_runs;
     })
 
-  pub lone_cause : (inner : State M P) (u : View) → LeavesAll mid inner → u ≡ inner.seat → (bytes pages : ℕ) → pages ≡ pages_for bytes
-      → IsLoneRefused s' (record s' { seat = u }) bytes pages
-  lone_cause inner u left seat = cause inner (record s' { seat = u }) left seat
+  pub lone_cause : (inner after : State M P) → LeavesAll mid inner → after.seat ≡ inner.seat → (bytes pages : ℕ) → pages ≡ pages_for bytes
+      → after.bounces ≡ stepped s.bounces → IsLoneRefused s' after bytes pages
+  lone_cause inner after left seat = cause inner after left seat
 
 -- ---- the area of a meta was refused
 module _ {M P : Type 0} (s s' : State M P) (same : s ≡ s') (was now : Refusals) (number : ℕ) (w : View)
@@ -115,12 +127,15 @@ module _ {M P : Type 0} (s s' : State M P) (same : s ≡ s') (was now : Refusals
   unmapped : w.desk.layout.runs ≡ s.seat.desk.layout.runs
   unmapped = ap (λ (x : View). x.desk.layout.runs) refuses.note.view
 
-  pub area_cause : (bytes : ℕ) → free_of s.stock ≡ [] → IsLoneRefused s' (record s' { seat = w }) bytes now.last
-  area_cause bytes none = subst (λ (x : State M P). IsLoneRefused x (record s' { seat = w }) bytes now.last) same (inl (refuses.asked.last, none, unmapped))
+  pub area_cause : (after : State M P) → after.seat ≡ w → after.bounces ≡ s.bounces → (bytes : ℕ) → free_of s.stock ≡ []
+      → IsLoneRefused s' after bytes now.last
+  area_cause after seat kept bytes none = subst (λ (x : State M P). IsLoneRefused x after bytes now.last) same
+      (inl (refuses.asked.last, none, kept, ap (λ (x : View). x.desk.layout.runs) seat ∙ unmapped))
 
   pub area_leaves : (after : State M P) → after.seat ≡ w → after.rings ≡ s.rings → after.usage ≡ s.usage → after.counter ≡ s.counter → LeavesHeap s' after
   area_leaves after seat rings usage counter = subst (λ (x : State M P). LeavesHeap x after) same (record {
-    came = subst (Came s.seat) (sym seat) (refused_goes s.seat w was now 1 number refuses).came;
+    came = record { words = (0, refuses.note.found) ∷ []; readings = ap (λ (x : View). x.readings) (seat ∙ refuses.note.view) };
+    all = one_zero refuses.note.found;
     groups = ap (λ (x : View). x.desk.groups) (seat ∙ refuses.note.view);
     nests = ap (λ (x : View). x.desk.layout.nests) (seat ∙ refuses.note.view);
     usage = usage;

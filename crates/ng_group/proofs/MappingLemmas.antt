@@ -317,3 +317,7 @@ module _ {start : Start} {span : Span} {live : List mapper.Run} {was now : Refus
 
   pub view_refused : u ≡ record l.seat { excuses = u.excuses; readings = u.readings; desk = record l.seat.desk { refusals = u.desk.refusals } }
   view_refused = subst (λ (x : View). x ≡ record l.seat { excuses = x.excuses; readings = x.readings; desk = record l.seat.desk { refusals = x.desk.refusals } }) (sym refuses.note.view) refl
+
+  -- word 0 alone was read
+  pub noted_refused : (found : ℕ) × (u.readings ≡ l.seat.readings ++ (0, found) ∷ [])
+  noted_refused = (refuses.note.found, ap (λ (x : View). x.readings) refuses.note.view)

@@ -6,13 +6,14 @@ use Rattle.ng_view.specs.Notes.{plain_run}
 use Rattle.ng_mapper.specs.Runs as mapper
 use Rattle.ng_mapper.specs.declared.refusals.Refusals.{Refusals}
 use Rattle.ng_policy.specs.Ask.{IsCount}
+use Rattle.ng_policy.specs.Bounce.{accounted, stepped}
 use Rattle.ng_policy.specs.declared.ask.Ask.{Ask}
 use Rattle.ng_shelf.specs.Shape.{IsNestedSize, shape_of}
 use Rattle.ng_shelf.specs.Stock.{Stock}
 use Rattle.ng_supply.specs.Metas.{FindsMeta}
 use Rattle.ng_view.specs.declared.view.Start.{Start}
 use Rattle.ng_view.specs.declared.view.View.{View}
-use Rattle.ng_group.specs.Asking.{BuildsWanted, IsAsked, IsCarried, LeavesHeap, RefusedWanted, Want, carried_bytes}
+use Rattle.ng_group.specs.Asking.{GetsSlot, IsAsked, IsCarried, LeavesHeap, RefusedWanted, Want, carried_bytes}
 use Rattle.ng_group.specs.Building.{HasBuilt, IsAsk, LeavesAll}
 use Rattle.ng_group.specs.Serving.{FindsNoSlot, OnlyRing}
 use Rattle.ng_group.specs.States.{State, ledger_of}
@@ -71,20 +72,22 @@ module _ {M P : Type 0} {start : Start} {runs : M → List mapper.Run} {gives : 
   module _ (large : ¬ IsNestedSize class count) where
     pub mapped_builds : (after : State M P) → GoesOn w after.seat → HasBuilt meta ask.class (shape_of ask bytes count).count mid after
         → ((base : ℕ) × (after.seat.desk.layout.runs ≡ plain_run base (shape_of ask bytes count).pages ∷ w.desk.layout.runs))
-        → after.counter ≡ (inside.counter + 1) % 2 ^ 64 → BuildsWanted counts s after class bytes
-    mapped_builds after on built run counter = builds_run counts s mid class bytes sought took want refl refl asked large after run.0 meta (shape_of ask bytes count).count on.came refl
+        → after.counter ≡ (inside.counter + 1) % 2 ^ 64 → after.bounces ≡ stepped (accounted inside.bounces ask.class) → GetsSlot counts s after class bytes
+    mapped_builds after on built run counter bounces = builds_run counts s mid class bytes sought took want refl refl asked large after run.0 meta (shape_of ask bytes count).count on.came refl
         (subst (λ k. HasBuilt meta k (shape_of ask bytes count).count mid after) was.asks.class_is built) run.1 counter
+        (subst (λ k. after.bounces ≡ stepped (accounted inside.bounces k)) was.asks.class_is bounces)
 
   -- ---- in a slot of another group
   module _ (small : IsNestedSize class count) (next size : ℕ) (size_is : size ≡ 16 * units_of class * count + 12) (least : IsLeastClass size next) where
     carried : IsCarried counts s want next
     carried = record { asked = asked; small = small; least = subst (λ n. IsLeastClass n next) size_is least }
 
-    pub nested_builds : (inner after : State M P) → BuildsWanted (gives inside.rules) mid inner next size → GoesOn inner.seat after.seat → HasBuilt meta class count inner after
-        → after.seat.desk.layout.runs ≡ inner.seat.desk.layout.runs → after.counter ≡ inner.counter → BuildsWanted counts s after class bytes
-    nested_builds inner after inner_builds on built same_runs counter = builds_nested counts s mid class bytes sought took want refl refl next carried inner after meta
-        (subst (λ n. BuildsWanted counts mid inner next n) size_is (subst (λ (p : P). BuildsWanted (gives p) mid inner next size) same_rules inner_builds))
-        on.came built same_runs counter
+    pub nested_builds : class < 48 → (inner after : State M P) → GetsSlot (gives inside.rules) mid inner next size → GoesOn inner.seat after.seat
+        → HasBuilt meta class count inner after → after.seat.desk.layout.runs ≡ inner.seat.desk.layout.runs → after.counter ≡ inner.counter
+        → after.bounces ≡ inner.bounces → GetsSlot counts s after class bytes
+    nested_builds known inner after inner_builds on built same_runs counter bounces = builds_nested counts s mid class bytes sought took want refl refl next carried inner known after meta
+        (subst (λ n. GetsSlot counts mid inner next n) size_is (subst (λ (p : P). GetsSlot (gives p) mid inner next size) same_rules inner_builds))
+        on.came built same_runs counter bounces
 
   -- ---- a map call was refused, and the meta went to the stock
   module _ (inner : State M P) {e : State M P} (same : e ≡ inner) (put : Stock) where
@@ -100,16 +103,21 @@ module _ {M P : Type 0} {start : Start} {runs : M → List mapper.Run} {gives : 
     counter : e.counter ≡ inner.counter
     counter = ap (λ (x : State M P). x.counter) same
 
+    bounces : e.bounces ≡ inner.bounces
+    bounces = ap (λ (x : State M P). x.bounces) same
+
     -- for the run of the group
-    module _ (large : ¬ IsNestedSize class count) (on : GoesOn w inner.seat) (left : LeavesAll mid inner) where
-      pub mapped_cause : (refused : M → Refusals) → (refused inner.mapper).last ≡ (shape_of ask bytes count).pages
+    module _ (large : ¬ IsNestedSize class count) (left : LeavesAll mid inner) where
+      pub mapped_cause : inner.bounces ≡ stepped (accounted inside.bounces ask.class)
+          → (refused : M → Refusals) → (refused inner.mapper).last ≡ (shape_of ask bytes count).pages
           → RefusedWanted counts s (record e { stock = put }) class bytes (refused e.mapper).last
-      mapped_cause refused is = run_cause counts s mid class bytes sought took want refl refl asked large (record e { stock = put }) inner left on.came seat rings usage counter
+      mapped_cause counted refused is = run_cause counts s mid class bytes sought took want refl refl asked large (record e { stock = put }) inner left seat rings usage counter
           (refused e.mapper).last
           (ap (λ (x : State M P). (refused x.mapper).last) same ∙ is)
+          (bounces ∙ subst (λ k. inner.bounces ≡ stepped (accounted inside.bounces k)) was.asks.class_is counted)
 
       pub mapped_leaves : LeavesHeap s (record e { stock = put })
-      mapped_leaves = run_leaves counts s mid class bytes sought took want refl refl asked large (record e { stock = put }) inner left on.came seat rings usage counter
+      mapped_leaves = run_leaves counts s mid class bytes sought took want refl refl asked large (record e { stock = put }) inner left seat rings usage counter
 
     -- in the call for the slot
     module _ (small : IsNestedSize class count) (next size : ℕ) (size_is : size ≡ 16 * units_of class * count + 12) (least : IsLeastClass size next) where
@@ -129,6 +137,7 @@ module _ {M P : Type 0} {start : Start} {runs : M → List mapper.Run} {gives : 
           usage
           counter
           (refused e.mapper).last
+          bounces
           (subst (λ n. RefusedWanted counts mid inner next (carried_bytes want) n) (sym (ap (λ (x : State M P). (refused x.mapper).last) same))
           (inner_cause (refused inner.mapper).last cause))
 

@@ -6,7 +6,7 @@ use Rattle.ng_lists.specs.Rings.{ring_of}
 use Rattle.ng_policy.specs.Bounce.{Bounces}
 use Rattle.ng_policy.specs.declared.ask.Ask.{Ask}
 use Rattle.ng_ledger.specs.Rings.{IsIn}
-use Rattle.ng_serve.specs.Reads.{IsBareIn}
+use Rattle.ng_serve.specs.Reads.{AllBare, IsBareIn}
 use Rattle.ng_serve.proofs.Readings.{among_left, among_right}
 use Rattle.ng_shelf.specs.Stock.{free_of}
 use Rattle.ng_view.specs.Lists.{Among}
@@ -53,6 +53,14 @@ asked_moved counts s mid w usage bounces asked = record {
   allowed = asked.allowed;
 }
 
+pub carried_moved : {M P : Type 0} (counts : Ask → ℕ → Type 0) (s mid : State M P) (w : Want) (next : ℕ) → mid.usage ≡ s.usage → mid.bounces ≡ s.bounces
+    → IsCarried counts mid w next → IsCarried counts s w next
+carried_moved counts s mid w next usage bounces carried = record {
+  asked = asked_moved counts s mid w usage bounces carried.asked;
+  small = carried.small;
+  least = carried.least;
+}
+
 pub chain_moved : {M P : Type 0} (counts : Ask → ℕ → Type 0) (s mid : State M P) (class bytes : ℕ) (ws : List Want) → mid.usage ≡ s.usage → mid.bounces ≡ s.bounces → IsChain counts mid class bytes ws → IsChain counts s class bytes ws
 chain_moved counts s mid class bytes [] usage bounces chain = tt
 chain_moved counts s mid class bytes (w ∷ ws) usage bounces (of_class, of_bytes, inl last) = (of_class, of_bytes, inl last)
@@ -61,7 +69,7 @@ chain_moved counts s mid class bytes (w ∷ ws) usage bounces (of_class, of_byte
   of_bytes,
   inr (
     next,
-    record { asked = asked_moved counts s mid w usage bounces carried.asked; small = carried.small; least = carried.least },
+    carried_moved counts s mid w next usage bounces carried,
     chain_moved counts s mid next (carried_bytes w) ws usage bounces chain,
   ),
 )
@@ -88,6 +96,7 @@ no_area counts s words class bytes known many wants =
 pub record Seeks {M P : Type 0} (class : ℕ) (s mid : State M P) : Type 0 where
   pub came : Came s.seat mid.seat
   pub read : (m : ℕ) → IsIn s.rings class m → IsBareIn came.words m
+  pub all : AllBare came.words
   pub left : IsLeft (ring_of s.rings class) (ring_of mid.rings class)
   pub rings : (k : ℕ) → k ≢ class → ring_of mid.rings k ≡ ring_of s.rings k
   pub groups : mid.seat.desk.groups ≡ s.seat.desk.groups
@@ -158,7 +167,7 @@ module _ {M P : Type 0} (counts : Ask → ℕ → Type 0) (s mid : State M P) (c
       wanted = wanted_more (last.before ++ v ∷ []) last.wanted;
     }
 
-    pub run_more : (pages : ℕ) → WantsRun counts mid rest next (carried_bytes w) pages → WantsRun counts s words class bytes pages
+    unfoldable pub run_more : (pages : ℕ) → WantsRun counts mid rest next (carried_bytes w) pages → WantsRun counts s words class bytes pages
     run_more pages run = record {
       want = run.want;
       last = last_more run.want run.last;

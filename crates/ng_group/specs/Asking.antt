@@ -1,10 +1,11 @@
 -- What a call builds, and when it asks the mapper for pages.
-use Rattle.std.specs.Prelude.{◌≡◌, ◌⊎◌, ℕ, ◌+◌, ◌*◌, ◌%◌, ◌^◌, ◌<◌, ◌∷◌, ◌++◌, [], List, length, not, true, false}
+use Rattle.std.specs.Prelude.{◌≡◌, ◌⊎◌, ℕ, ◌+◌, ◌*◌, ◌%◌, ◌^◌, ◌<◌, ◌≤◌, ◌∷◌, ◌++◌, [], List, length, not, true, false}
 use Rattle.ng_class.specs.Class.{IsLeastClass, units_of}
 use Rattle.ng_lists.specs.Rings.{ring_of}
 use Rattle.ng_policy.specs.Ask.{IsCount}
+use Rattle.ng_policy.specs.Bounce.{accounted, stepped}
 use Rattle.ng_policy.specs.declared.ask.Ask.{Ask}
-use Rattle.ng_serve.specs.Reads.{IsBareIn}
+use Rattle.ng_serve.specs.Reads.{AllBare, IsBareIn}
 use Rattle.ng_shelf.specs.Shape.{IsNestedSize, shape_of}
 use Rattle.ng_shelf.specs.Stock.{free_of}
 use Rattle.ng_view.specs.Lists.{Among, count_of, total_by}
@@ -12,6 +13,7 @@ use Rattle.ng_view.specs.declared.view.Group.{Group}
 use Rattle.ng_view.specs.declared.view.Run.{Run}
 use Rattle.ng_ledger.specs.Rings.{IsIn}
 use Rattle.ng_group.specs.Building.{IsAsk}
+use Rattle.ng_group.specs.Serving.{ServesRing}
 use Rattle.ng_group.specs.States.{State}
 use Rattle.ng_group.specs.Steps.{Came}
 
@@ -87,13 +89,6 @@ abbrev pub IsAreaWanted : {M P : Type 0} → (Ask → ℕ → Type 0) → State 
 IsAreaWanted counts before after words class bytes = (areas after.seat.desk.layout.runs ≡ areas before.seat.desk.layout.runs)
     ⊎ ((areas after.seat.desk.layout.runs ≡ areas before.seat.desk.layout.runs + 1) × WantsArea counts before words class bytes)
 
--- no run for a group came, and the counter is as before; or one did, and the counter rose by one
-abbrev pub IsCounted : {M P : Type 0} → State M P → State M P → Type 0
-IsCounted before after =
-    ((group_runs after.seat.desk.layout.runs ≡ group_runs before.seat.desk.layout.runs) × (after.counter ≡ before.counter))
-    ⊎ ((group_runs after.seat.desk.layout.runs ≡ group_runs before.seat.desk.layout.runs + 1)
-    × (after.counter ≡ (before.counter + 1) % 2 ^ 64))
-
 -- the run was noted, or is an area that was wanted, or one for a wanted group
 abbrev pub IsRunWanted : {M P : Type 0} → (Ask → ℕ → Type 0) → State M P → List (ℕ × ℕ) → ℕ → ℕ → Run → Type 0
 IsRunWanted counts s words class bytes r = Among r s.seat.desk.layout.runs
@@ -105,31 +100,80 @@ abbrev pub IsGroupWanted : {M P : Type 0} → (Ask → ℕ → Type 0) → State
 IsGroupWanted counts s words class bytes g = Among g s.seat.desk.groups
     ⊎ ((w : Want) × IsLastWanted counts s words class bytes w × HasSlots w g)
 
--- a call for so many bytes of a class built nothing that wasn't wanted, mapped one area at most, and counted the run that it
--- mapped for a group
-pub record BuildsWanted {M P : Type 0} (counts : Ask → ℕ → Type 0) (before after : State M P) (class bytes : ℕ) : Type 0 where
-  pub came : Came before.seat after.seat
-  pub runs : (r : Run) → Among r after.seat.desk.layout.runs → IsRunWanted counts before came.words class bytes r
-  pub groups : (g : Group) → Among g after.seat.desk.groups → IsGroupWanted counts before came.words class bytes g
-  pub one_area : IsAreaWanted counts before after came.words class bytes
-  pub counted : IsCounted before after
+-- each group is of a greater class than the one before it, the first of the class or a greater one
+abbrev pub AreRising : ℕ → List Group → Type 0
+AreRising class [] = Unit {0}
+AreRising class (g ∷ gs) = (class < g.tag) × AreRising g.tag gs
 
--- the refused map call was for an area that was wanted, and no area came; or for the run of a wanted group, and one area
--- came at most
+-- a slot was sought of the class: it is the one asked for, or a slot of it was to carry the last of some wanted groups
+abbrev pub IsSought : {M P : Type 0} → (Ask → ℕ → Type 0) → State M P → List (ℕ × ℕ) → ℕ → ℕ → ℕ → Type 0
+IsSought counts s words class bytes sought = (sought ≡ class)
+    ⊎ ((w : Want) × IsLastWanted counts s words class bytes w × IsCarried counts s w sought)
+
+-- the ring of a class that was sought served the call, no run for a group came, and none was counted
+pub record GetsFromRing {M P : Type 0} (counts : Ask → ℕ → Type 0) (before after : State M P) (early late : List (ℕ × ℕ)) (class bytes : ℕ) : Type 0 where
+  pub sought : ℕ
+  pub is_sought : IsSought counts before early class bytes sought
+  pub above : class ≤ sought
+  pub serves : ServesRing sought before after late
+  pub runs : group_runs after.seat.desk.layout.runs ≡ group_runs before.seat.desk.layout.runs
+  pub counter : after.counter ≡ before.counter
+
+-- one run for a group came, for a wanted one, and was counted: its class bounces more if it was unmapped lately, and the
+-- mapping is a step of the bounces
+pub record GetsByRun {M P : Type 0} (counts : Ask → ℕ → Type 0) (before after : State M P) (early : List (ℕ × ℕ)) (class bytes : ℕ) : Type 0 where
+  pub pages : ℕ
+  pub wants : WantsRun counts before early class bytes pages
+  pub runs : group_runs after.seat.desk.layout.runs ≡ group_runs before.seat.desk.layout.runs + 1
+  pub counter : after.counter ≡ (before.counter + 1) % 2 ^ 64
+  pub bounces : after.bounces ≡ stepped (accounted before.bounces wants.want.class)
+
+-- the seat got a slot for so many bytes of a class. Up to some point no mask that was read had a slot, and of what was read
+-- till then it follows what was wanted. Each run and each group stayed; what came was wanted, one area at most and one group of
+-- each class; and the slot came out of a ring, or by a run
+pub record GetsSlot {M P : Type 0} (counts : Ask → ℕ → Type 0) (before after : State M P) (class bytes : ℕ) : Type 0 where
+  pub early : List (ℕ × ℕ)
+  pub late : List (ℕ × ℕ)
+  pub readings : after.seat.readings ≡ before.seat.readings ++ (early ++ late)
+  pub all : AllBare early
+  pub new_runs : List Run
+  pub runs_are : after.seat.desk.layout.runs ≡ new_runs ++ before.seat.desk.layout.runs
+  pub runs : (r : Run) → Among r after.seat.desk.layout.runs → IsRunWanted counts before early class bytes r
+  pub one_area : IsAreaWanted counts before after early class bytes
+  pub new_groups : List Group
+  pub groups_are : after.seat.desk.groups ≡ new_groups ++ before.seat.desk.groups
+  pub groups : (g : Group) → Among g after.seat.desk.groups → IsGroupWanted counts before early class bytes g
+  pub rising : AreRising class new_groups
+  pub source : GetsFromRing counts before after early late class bytes ⊎ GetsByRun counts before after early class bytes
+
+-- the core is as before, since the hand got the slot by itself; or the seat got it
+abbrev pub BuildsWanted : {M P : Type 0} → (Ask → ℕ → Type 0) → State M P → State M P → ℕ → ℕ → Type 0
+BuildsWanted counts before after class bytes = (after ≡ before) ⊎ GetsSlot counts before after class bytes
+
+-- the run of a wanted group was asked for, and the bounces are as they are where it comes
+abbrev pub AsksRun : {M P : Type 0} → (Ask → ℕ → Type 0) → State M P → State M P → List (ℕ × ℕ) → ℕ → ℕ → ℕ → Type 0
+AsksRun counts before after words class bytes pages = (run : WantsRun counts before words class bytes pages)
+    × (after.bounces ≡ stepped (accounted before.bounces run.want.class))
+
+-- the refused map call was for an area that was wanted, no area came, and the bounces are as before; or it was for the run of a
+-- wanted group, and one area came at most
 pub record RefusedWanted {M P : Type 0} (counts : Ask → ℕ → Type 0) (before after : State M P) (class bytes pages : ℕ) : Type 0 where
   pub came : Came before.seat after.seat
   pub one_area : IsAreaWanted counts before after came.words class bytes
-  pub cause : ((pages ≡ 1) × (areas after.seat.desk.layout.runs ≡ areas before.seat.desk.layout.runs) × WantsArea counts before came.words class bytes)
-      ⊎ WantsRun counts before came.words class bytes pages
+  pub cause : ((pages ≡ 1) × (areas after.seat.desk.layout.runs ≡ areas before.seat.desk.layout.runs) × (after.bounces ≡ before.bounces)
+      × WantsArea counts before came.words class bytes)
+      ⊎ AsksRun counts before after came.words class bytes pages
 
 -- the ring is as before, or its first group has left it, which was read to be bare
 abbrev pub IsWalked : List (ℕ × ℕ) → List ℕ → List ℕ → Type 0
 IsWalked words before after = (after ≡ before) ⊎ ((first : ℕ) × (before ≡ first ∷ after) × IsBareIn words first)
 
--- the groups, the slots that carry, the usage and the counter are as before, of each ring the first group may have left, and
--- the runs are as before but for one new area of one page at most
+-- the groups, the slots that carry, the usage and the counter are as before; no mask that was read or fetched had a slot, so no
+-- slot changed its place; of each ring the first group may have left; and the runs are as before but for one new area of one
+-- page at most
 pub record LeavesHeap {M P : Type 0} (before after : State M P) : Type 0 where
   pub came : Came before.seat after.seat
+  pub all : AllBare came.words
   pub groups : after.seat.desk.groups ≡ before.seat.desk.groups
   pub nests : after.seat.desk.layout.nests ≡ before.seat.desk.layout.nests
   pub usage : after.usage ≡ before.usage

@@ -1,5 +1,5 @@
 -- Groups that are built.
-use Rattle.std.specs.Prelude.{◌≡◌, ℕ, ◌+◌, ◌%◌, ◌↔◌, ◌&&◌, ◌==◌, ◌∷◌, [], IsTrue, List, if◌then◌else◌, nat_lt, slice_index, slice_set, Contains}
+use Rattle.std.specs.Prelude.{◌≡◌, ℕ, ◌+◌, ◌%◌, ◌↔◌, ◌&&◌, ◌==◌, ◌∷◌, ◌++◌, [], IsTrue, List, if◌then◌else◌, nat_lt, slice_index, slice_set, Contains}
 use Rattle.ng_policy.specs.Bounce.{Bounces, IsBouncing}
 use Rattle.ng_policy.specs.declared.ask.Ask.{Ask}
 use Rattle.ng_shelf.specs.Stock.{free_of}
@@ -49,13 +49,14 @@ pub record IsCarriedBy {M P : Type 0} (meta parent index : ℕ) (before after : 
   pub nests : after.seat.desk.layout.nests ≡ record { place = place; child = meta } ∷ before.seat.desk.layout.nests
 
 -- of the books and the counter all is as before, and of the seat all but its excuses, its readings and the number of the last
--- refusal
+-- refusal; word 0 alone was read
 pub record LeavesAll {M P : Type 0} (before after : State M P) : Type 0 where
   pub seat : after.seat ≡ record before.seat {
     excuses = after.seat.excuses;
     readings = after.seat.readings;
     desk = record before.seat.desk { refusals = after.seat.desk.refusals };
   }
+  pub noted : (found : ℕ) × (after.seat.readings ≡ before.seat.readings ++ (0, found) ∷ [])
   pub rings : after.rings ≡ before.rings
   pub parents : after.parents ≡ before.parents
   pub usage : after.usage ≡ before.usage

@@ -1,5 +1,6 @@
 -- What a call for a block that is a group by itself builds, and when it asks the mapper for pages.
 use Rattle.std.specs.Prelude.{◌≡◌, ◌⊎◌, ℕ, ◌+◌, ◌%◌, ◌^◌, ◌∷◌, [], List, false, true}
+use Rattle.ng_policy.specs.Bounce.{stepped}
 use Rattle.ng_shelf.specs.Stock.{free_of}
 use Rattle.ng_terms.specs.Accounts.{pages_for}
 use Rattle.ng_view.specs.declared.view.Group.{Group}
@@ -24,7 +25,7 @@ pub record BuildsAlone {M P : Type 0} (meta pages : ℕ) (before after : State M
   pub counter : after.counter ≡ (before.counter + 1) % 2 ^ 64
 
 -- one group came, of that meta, which is one block on a run of its own, of the pages that so many bytes and 20 take, and the
--- counter rose by one; and one area at most came, which was needed
+-- counter rose by one, which is a step of the bounces; and one area at most came, which was needed
 pub record BuildsLone {M P : Type 0} (meta : ℕ) (before after : State M P) (bytes : ℕ) : Type 0 where
   pub group : Group
   pub of_meta : group.meta ≡ meta
@@ -36,10 +37,12 @@ pub record BuildsLone {M P : Type 0} (meta : ℕ) (before after : State M P) (by
   pub area : IsAreaNeeded before runs
   pub run : after.seat.desk.layout.runs ≡ record { addr = group.base; pages = pages_for bytes; area = false } ∷ runs
   pub counter : after.counter ≡ (before.counter + 1) % 2 ^ 64
+  pub bounces : after.bounces ≡ stepped before.bounces
 
--- the refused map call was for an area that was needed, and no area came; or for the block's run, and one area came at
--- most
+-- the refused map call was for an area that was needed, no area came, and the bounces are as before; or it was for the block's
+-- run, which was a step of them, and one area came at most
 abbrev pub IsLoneRefused : {M P : Type 0} → State M P → State M P → ℕ → ℕ → Type 0
 IsLoneRefused before after bytes pages =
-    ((pages ≡ 1) × (free_of before.stock ≡ []) × (after.seat.desk.layout.runs ≡ before.seat.desk.layout.runs))
-    ⊎ ((pages ≡ pages_for bytes) × IsAreaNeeded before after.seat.desk.layout.runs)
+    ((pages ≡ 1) × (free_of before.stock ≡ []) × (after.bounces ≡ before.bounces)
+    × (after.seat.desk.layout.runs ≡ before.seat.desk.layout.runs))
+    ⊎ ((pages ≡ pages_for bytes) × (after.bounces ≡ stepped before.bounces) × IsAreaNeeded before after.seat.desk.layout.runs)

@@ -3,6 +3,7 @@ ghost use Rattle.std.specs.Prelude.{◌≡◌, ℕ, ◌+◌, ◌*◌, ◌%◌, �
 ghost use Rattle.ng_class.specs.Class.{IsLeastClass, units_of};
 ghost use Rattle.ng_meta.specs.Place.{IsMetaPlace};
 ghost use Rattle.ng_policy.specs.Ask.{AskInRange, IsCount};
+ghost use Rattle.ng_policy.specs.Bounce.{accounted, stepped};
 ghost use Rattle.ng_ledger.specs.Rings.{IsBare, entered_first};
 ghost use Rattle.ng_ledger.specs.Standing.{KeepsHand};
 ghost use Rattle.ng_lists.specs.Rings.{IsListed};
@@ -61,6 +62,7 @@ impl<N: Name, M: Mapper, P: Rules> Works<N, M, P> {
         ensures stock { self.new.stock ≡ self.old.stock }
         ensures rules { self.new.rules ≡ self.old.rules }
         ensures counted { OnOk result (self.new.counter ≡ (self.old.counter + 1) % 2 ^ 64) }
+        ensures bounces { self.new.bounces ≡ stepped (accounted self.old.bounces ask.now.class) }
     {
         self.rings.stand_once();
         let class = ask.class;
@@ -112,6 +114,7 @@ impl<N: Name, M: Mapper, P: Rules> Works<N, M, P> {
         ensures stock { self.new.stock ≡ self.old.stock }
         ensures rules { self.new.rules ≡ self.old.rules }
         ensures counter { self.new.counter ≡ self.old.counter }
+        ensures bounces { self.new.bounces ≡ self.old.bounces }
     {
         self.rings.stand_once();
         let (parent, index) = slot;

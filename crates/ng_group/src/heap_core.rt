@@ -2,6 +2,7 @@ ghost use Rattle.std.specs.Prelude.{◌≡◌, ◌+◌, ◌*◌, ◌<◌, ◌≤
 ghost use Rattle.ng_mapper.specs.Mapping.{NotesNone};
 ghost use Rattle.ng_class.specs.Class.{units_of};
 ghost use Rattle.ng_lists.specs.Rings.{ring_of};
+ghost use Rattle.ng_policy.specs.Bounce.{no_bounces};
 ghost use Rattle.ng_space.specs.Blocks.{BlockToken, HasBlock};
 ghost use Rattle.ng_space.specs.Tokens.{HasSlot, Token};
 ghost use Rattle.ng_space.specs.Passed.{HasExcuse};
@@ -65,6 +66,7 @@ impl<N: Name, M: Mapper, P: Rules> Core<N, M, P> {
         ensures seat { result.seat ≡ seat }
         ensures mapper { result.mapper ≡ mapper }
         ensures rules { result.rules ≡ rules }
+        ensures bounces { result.bounces ≡ no_bounces }
         ensures counter { result.counter ≡ 0 }
     {
         let Tables {

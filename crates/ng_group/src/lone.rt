@@ -1,5 +1,6 @@
 // Groups that are one block by themselves.
 ghost use Rattle.std.specs.Prelude.{◌≡◌, ◌<◌, ◌≤◌, [], IfErr, IfOk, OnErr, OnOk, max};
+ghost use Rattle.ng_policy.specs.Bounce.{stepped};
 ghost use Rattle.ng_ledger.specs.Standing.{KeepsHand};
 ghost use Rattle.ng_group.specs.Serving.{HasServed};
 ghost use Rattle.ng_group.specs.States.{Working, ledger_of};
@@ -69,6 +70,7 @@ impl<N: Name, M: Mapper, P: Rules> Works<N, M, P> {
         ensures asked { OnErr result ((M.refused self.new.mapper).last ≡ pages_for bytes) }
         ensures most { OnErr result ((M.refused self.new.mapper).most ≡ max (M.refused self.old.mapper).most (pages_for bytes)) }
         ensures left { OnErr result (LeavesAll self.old self.new) }
+        ensures bounces { self.new.bounces ≡ stepped self.old.bounces }
         ensures rules { self.new.rules ≡ self.old.rules }
     {
         self.bounce.step();

@@ -136,7 +136,6 @@ impl<N: Name, M: Mapper, P: Rules> Works<N, M, P> {
         requires bare { ¬ IsListed self.old.rings meta → Among meta self.old.seat.desk.zero_avail }
         ensures working { Working N.facts.start M.span M.runs M.refused self.new }
         ensures only { OnlyRing class self.old self.new }
-        ensures bounces { self.new.bounces ≡ self.old.bounces }
         ensures idle { self.new.seat.held ≡ [] }
         ensures back { GoesBack class meta index self.old self.new }
     {
@@ -152,7 +151,6 @@ impl<N: Name, M: Mapper, P: Rules> Works<N, M, P> {
         requires bare { ¬ IsListed self.old.rings meta → Among meta self.old.seat.desk.zero_avail }
         ensures working { Working N.facts.start M.span M.runs M.refused self.new }
         ensures only { OnlyRing class self.old self.new }
-        ensures bounces { self.new.bounces ≡ self.old.bounces }
         ensures listed { Among meta self.new.seat.desk.listed }
         ensures held { self.new.seat.held ≡ self.old.seat.held }
         ensures enlists { Enlists class meta self.old self.new }

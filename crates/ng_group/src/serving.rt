@@ -2,13 +2,14 @@
 ghost use Rattle.std.specs.Prelude.{◌≡◌, ◌+◌, ◌*◌, ◌<◌, ◌≤◌, ◌∷◌, [], Contains, IfErr, IfNone, IfOk, IfSome, OnErr, OnOk, Some, max, slice_get};
 ghost use Rattle.ng_class.specs.Class.{IsLeastClass, units_of};
 ghost use Rattle.ng_policy.specs.Ask.{IsCount};
+ghost use Rattle.ng_policy.specs.Bounce.{decayed};
 ghost use Rattle.ng_shelf.specs.Shape.{IsNestedSize};
 ghost use Rattle.ng_ledger.specs.Rings.{IsBare};
 ghost use Rattle.ng_ledger.specs.Standing.{KeepsHand};
 ghost use Rattle.ng_lists.specs.Rings.{ring_of};
 ghost use Rattle.ng_serve.specs.Choices.{IsChoice};
-ghost use Rattle.ng_group.specs.Asking.{BuildsWanted, LeavesHeap, RefusedWanted};
-ghost use Rattle.ng_group.specs.Serving.{FindsNoFreed, FindsNoSlot, HasServed, OnlyRing, StartsWalk};
+ghost use Rattle.ng_group.specs.Asking.{GetsSlot, LeavesHeap, RefusedWanted};
+ghost use Rattle.ng_group.specs.Serving.{FindsNoFreed, FindsNoSlot, HasServed, IsServedBy, OnlyRing, StartsWalk};
 ghost use Rattle.ng_group.specs.States.{Working, ledger_of};
 ghost use Rattle.ng_group.specs.Steps.{GoesOn, IsCalm, IsRefused, LeavesBelow};
 
@@ -47,7 +48,7 @@ impl<N: Name, M: Mapper, P: Rules> Works<N, M, P> {
         ensures calm { OnOk result (IsCalm self.old.seat self.new.seat (M.refused self.old.mapper) (M.refused self.new.mapper)) }
         ensures refused { IfErr result (λ number. IsRefused number self.old.seat self.new.seat (M.refused self.old.mapper) (M.refused self.new.mapper)) }
         ensures idle { OnErr result (self.new.seat.held ≡ []) }
-        ensures builds { OnOk result (BuildsWanted (P.count_gives self.old.rules) self.old self.new class bytes) }
+        ensures builds { OnOk result (GetsSlot (P.count_gives self.old.rules) self.old self.new class bytes) }
         ensures cause { OnErr result (RefusedWanted (P.count_gives self.old.rules) self.old self.new class bytes (M.refused self.new.mapper).last) }
         ensures leaves { OnErr result (LeavesHeap self.old self.new) }
         ensures most { OnErr result ((M.refused self.new.mapper).most ≤ max (M.refused self.old.mapper).most 512) }
@@ -91,6 +92,7 @@ impl<N: Name, M: Mapper, P: Rules> Works<N, M, P> {
         ensures working { Working N.facts.start M.span M.runs M.refused self.new }
         ensures only { OnlyRing class self.old self.new }
         ensures served { IfSome result (λ slot. HasServed class bytes self.new.seat slot.0 slot.1) }
+        ensures source { IfSome result (λ slot. IsServedBy class self.old self.new) }
         ensures none { IfNone result (FindsNoSlot class self.old self.new) }
     {
         self.rings.stand_once();
@@ -112,6 +114,7 @@ impl<N: Name, M: Mapper, P: Rules> Works<N, M, P> {
         ensures working { Working N.facts.start M.span M.runs M.refused self.new }
         ensures only { OnlyRing class self.old self.new }
         ensures served { IfSome result (λ slot. HasServed class bytes self.new.seat slot.0 slot.1) }
+        ensures decays { IfSome result (λ slot. self.new.bounces ≡ decayed self.old.bounces class) }
         ensures none { IfNone result (FindsNoFreed class first self.old self.new) }
     {
         let start = self.leave_if_bare(space, class, first)?;
@@ -153,6 +156,7 @@ impl<N: Name, M: Mapper, P: Rules> Works<N, M, P> {
         ensures working { Working N.facts.start M.span M.runs M.refused self.new }
         ensures only { OnlyRing class self.old self.new }
         ensures served { HasServed class bytes self.new.seat result.0 result.1 }
+        ensures decays { self.new.bounces ≡ decayed self.old.bounces class }
     {
         let Choice { meta, lowest } = choice;
         self.rings.rotate(class, meta);

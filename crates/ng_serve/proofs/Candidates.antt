@@ -11,10 +11,10 @@ use Rattle.ng_lists.proofs.TableLemmas.{before-split}
 use Rattle.ng_view.specs.Fetches.{HasGroup}
 use Rattle.ng_serve.specs.Choices.{FindsAllBare, FindsBare, IsChoice}
 use Rattle.ng_serve.specs.Groups.{RingLives}
-use Rattle.ng_serve.specs.Reads.{IsBareIn, Notes, NotesBy}
+use Rattle.ng_serve.specs.Reads.{AllBare, IsBareIn, Notes, NotesBy}
 use Rattle.ng_serve.specs.declared.choosing.Choice.{Choice}
 use Rattle.ng_serve.specs.declared.choosing.Offer.{Offer}
-use Rattle.ng_serve.proofs.Readings.{bare_left, bare_right, notes_groups, notes_then}
+use Rattle.ng_serve.proofs.Readings.{all_then, bare_left, bare_right, notes_groups, notes_then}
 use Rattle.ng_serve.proofs.Walks.{Step, next_rotated, rotated_distinct, step_of}
 
 -- a choice from the ring
@@ -29,6 +29,8 @@ pub record Walked (v : View) (ring : List ℕ) (start at : ℕ) (best : Option O
   pub noted : NotesBy v words w
   pub found : IfSome best (λ offer. IsFrom ring w offer.choice)
   pub bare : best ≡ None → (m : ℕ) → Contains (before at (rotated start ring)) m → IsBareIn words m
+  pub all : best ≡ None → AllBare words
+  pub unmarked : best ≡ None → (m i : ℕ) → Contains (before at (rotated start ring)) m → ¬ Among {A = ℕ × ℕ} (m, i) v.desk.set_freed
 
 -- this one was too
 pub record Looked (v : View) (ring : List ℕ) (start at : ℕ) (best : Option Offer) (w : View) : Type 0 where
@@ -36,6 +38,8 @@ pub record Looked (v : View) (ring : List ℕ) (start at : ℕ) (best : Option O
   pub noted : NotesBy v words w
   pub found : IfSome best (λ offer. IsFrom ring w offer.choice)
   pub bare : best ≡ None → (m : ℕ) → Contains (before at (rotated start ring)) m ⊎ (m ≡ at) → IsBareIn words m
+  pub all : best ≡ None → AllBare words
+  pub unmarked : best ≡ None → (m i : ℕ) → Contains (before at (rotated start ring)) m ⊎ (m ≡ at) → ¬ Among {A = ℕ × ℕ} (m, i) v.desk.set_freed
 
 -- ---- what holds of groups and notes still does
 pub walked_none : (v : View) (ring : List ℕ) (start : ℕ) → Contains ring start → Walked v ring start start None v
@@ -50,6 +54,8 @@ walked_none v ring start member = record {
   };
   found = tt;
   bare = λ none m s. absurd (nowhere m (subst (λ l. Contains l m) (before-first start ring) s));
+  all = λ none word s. absurd s;
+  unmarked = λ none m i s marked. nowhere m (subst (λ l. Contains l m) (before-first start ring) s);
 }
   where
     nowhere : (m : ℕ) → Contains [] m → ⊥
@@ -88,6 +94,8 @@ module _ (v w u : View) (ring : List ℕ) (start at : ℕ) (kept : Option Offer)
         (λ (old : kept ≡ Some best). subst (λ (o : Option Offer). IfSome o (λ offer. IsFrom ring u offer.choice)) old (best_then w u notes.words ring kept notes.noted walked.found))
         which;
     bare = λ none. absurd (some≢none none);
+    all = λ none. absurd (some≢none none);
+    unmarked = λ none. absurd (some≢none none);
   }
     where
       some≢none : Some best ≡ None → ⊥
@@ -101,6 +109,11 @@ module _ (v w u : View) (ring : List ℕ) (start at : ℕ) (kept : Option Offer)
     bare = λ none m s. ⊎_elim
         (λ (before_it : Contains (before at (rotated start ring)) m). bare_left walked.words finds.words m (walked.bare none m before_it))
         (λ (here : m ≡ at). bare_right walked.words finds.words m (subst (IsBareIn finds.words) (sym here) finds.bare))
+        s;
+    all = λ none. all_then walked.words finds.words (walked.all none) finds.all;
+    unmarked = λ none m i s marked. ⊎_elim
+        (λ (before_it : Contains (before at (rotated start ring)) m). walked.unmarked none m i before_it marked)
+        (λ (here : m ≡ at). finds.unmarked i (subst (λ k. Among {A = ℕ × ℕ} (k, i) w.desk.set_freed) here (walked.noted.set_freed (m, i) marked)))
         s;
   }
 
@@ -117,6 +130,8 @@ module _ (v u : View) (ring : List ℕ) (start at next : ℕ) (best : Option Off
     noted = looked.noted;
     found = looked.found;
     bare = λ none m s. looked.bare none m ((step.goes_on on).passed m s);
+    all = looked.all;
+    unmarked = λ none m i s. looked.unmarked none m i ((step.goes_on on).passed m s);
   }
 
   pub walked_less : next ≢ start → length (after next (rotated start ring)) < length (after at (rotated start ring))
@@ -127,6 +142,8 @@ module _ (v u : View) (ring : List ℕ) (start at next : ℕ) (best : Option Off
     words = looked.words;
     noted = looked.noted;
     bare = λ m s. looked.bare none m (step.ends ends m (rotated_has ring start m from s));
+    all = looked.all none;
+    unmarked = λ m i s. looked.unmarked none m i (step.ends ends m (rotated_has ring start m from s));
   }
 
 pub looked_notes : (v u : View) (ring : List ℕ) (start at : ℕ) (best : Option Offer) → Looked v ring start at best u → Notes v u

@@ -1,7 +1,8 @@
 -- What a look at one candidate finds.
-use Rattle.std.proofs.Common.{◌≡◌, ◌≢◌, ℕ, zero, suc, ◌+◌, ◌^◌, ◌<◌, eqb, cond, Bool, true, false, List, [], ◌∷◌, ◌++◌, map, refl, sym, ap, ◌∙◌, subst, ⊎_elim, inl, inr, arith}
+use Rattle.std.proofs.Common.{◌≡◌, ◌≢◌, ℕ, zero, suc, ◌+◌, ◌%◌, ◌^◌, ◌<◌, eqb, cond, Bool, true, false, List, [], ◌∷◌, ◌++◌, map, refl, sym, ap, ◌∙◌, subst, ⊎_elim, inl, inr, arith}
 use Rattle.std.specs.Int.{bit_at}
 use Rattle.std.proofs.lemmas.Bool.{cases_eq, eq-eqb}
+use Rattle.std.proofs.lemmas.Nat.Bits.{bit_at-zero}
 use Rattle.ng_class.specs.Mask.{IsLowestBit}
 use Rattle.ng_view.specs.Lists.{Among, select}
 use Rattle.ng_view.specs.LockSteps.{read_bits}
@@ -12,7 +13,7 @@ use Rattle.ng_view.specs.Fetches.{HasGroup}
 use Rattle.ng_view.specs.Loads.{Loads, TellsGroups, freed_read}
 use Rattle.ng_serve.specs.Choices.{FindsBare, IsChoice, ReadsMasks}
 use Rattle.ng_serve.specs.Groups.{AreInSpace}
-use Rattle.ng_serve.specs.Reads.{Notes, NotesBy, Reads}
+use Rattle.ng_serve.specs.Reads.{AllBare, Notes, NotesBy, Reads}
 use Rattle.ng_serve.proofs.Readings.{among_left, notes_avail, notes_freed, notes_groups, notes_reads, notes_then}
 
 -- ---- a bit of a mask is among those that are noted
@@ -32,7 +33,7 @@ with_meta m i [] s = elim s [ ]
 with_meta m i (j ∷ js) (inl e) = inl (ap (λ k. (m, k)) e)
 with_meta m i (j ∷ js) (inr s) = inr (with_meta m i js s)
 
-is_read : (m n i : ℕ) → i < 32 → bit_at n i ≡ 1 → Among {A = ℕ × ℕ} (m, i) (read_bits m n)
+pub is_read : (m n i : ℕ) → i < 32 → bit_at n i ≡ 1 → Among {A = ℕ × ℕ} (m, i) (read_bits m n)
 is_read m n i lt set = with_meta m i (select (λ j. eqb (bit_at n j) 1) 32) (selects (λ j. eqb (bit_at n j) 1) 32 i lt (eq-eqb (bit_at n i) 1 set))
 
 -- ---- both masks were read
@@ -61,6 +62,8 @@ module _ (v u w : View) (meta word freed : ℕ) (has : HasGroup v meta) (first :
     bits = λ i lt set. subst (λ (x : View). Among {A = ℕ × ℕ} (meta, i) x.desk.set_freed) (sym freed_view)
         (among_left (read_bits has.group.meta freed) u.desk.set_freed (meta, i) (subst (λ m. Among {A = ℕ × ℕ} (meta, i) (read_bits m freed)) here (is_read meta freed i lt set)));
     within = λ i lt set g there e. ((tells_freed g (among_then g there)).freed (ap (λ m. m + 28) (sym e))).within i lt set;
+    set = λ i marked. ((tells_freed has.group (among_then has.group has.there)).freed (ap (λ m. m + 28) here)).set i
+        (noted_avail.set_freed (has.group.meta, i) (subst (λ m. Among {A = ℕ × ℕ} (m, i) v.desk.set_freed) here marked));
   }
 
 -- ---- no slot is freed
@@ -74,7 +77,17 @@ finds_bare v w meta freed reads none = record {
     avail_read = inl refl;
     freed_read = inr (inl (ap (λ n. (meta + 28, n)) (sym none)));
   };
+  all = all;
+  unmarked = λ i marked.
+      let set : bit_at freed i ≡ 1 = reads.set i marked in
+      let clear : bit_at freed i ≡ bit_at 0 i = ap (λ n. bit_at n i) none in
+      omega (arith, set, clear, bit_at-zero i);
 }
+  where
+    all : AllBare ((meta + 24, reads.word) ∷ (meta + 28, freed) ∷ [])
+    all word (inl first) = inr (ap (λ (x : ℕ × ℕ). x.1 % 2 ^ 32) first ∙ reads.no_avail)
+    all word (inr (inl second)) = inr (ap (λ (x : ℕ × ℕ). x.1 % 2 ^ 32) second ∙ ap (λ n. n % 2 ^ 32) none)
+    all word (inr (inr none)) = absurd none
 
 -- ---- or one is, and two fields were read behind
 module _ (v u r w : View) (meta freed lowest : ℕ) (reads : ReadsMasks v meta freed u) (low : IsLowestBit freed lowest) (first : Reads u r) (second : Reads r w) where

@@ -6,7 +6,7 @@ use Rattle.ng_view.specs.LockSteps.{avail_read, read_bits}
 use Rattle.ng_view.specs.Steps.{read}
 use Rattle.ng_view.specs.declared.view.View.{View}
 use Rattle.ng_view.specs.Loads.{freed_read}
-use Rattle.ng_serve.specs.Reads.{IsBareIn, NotesBy, Reads, with_notes}
+use Rattle.ng_serve.specs.Reads.{AllBare, IsBareIn, NotesBy, Reads, with_notes}
 
 -- ---- what is among the elements of one list is among those of two
 pub among_left : {A : Type 0} (xs ys : List A) (x : A) → Among x xs → Among x (xs ++ ys)
@@ -94,3 +94,12 @@ bare_right ws xs m bare = record {
   avail_read = among_right ws xs (m + 24, bare.avail) bare.avail_read;
   freed_read = among_right ws xs (m + 28, 0) bare.freed_read;
 }
+
+-- and so was each of more words
+pub all_then : (ws xs : List (ℕ × ℕ)) → AllBare ws → AllBare xs → AllBare (ws ++ xs)
+all_then [] xs first second = second
+all_then (w ∷ ws) xs first second = both (all_then ws xs (λ x there. first x (inr there)) second)
+  where
+    both : AllBare (ws ++ xs) → AllBare (w ∷ (ws ++ xs))
+    both rest word (inl same) = first word (inl same)
+    both rest word (inr among) = rest word among

@@ -1,5 +1,5 @@
 -- What the lock's seat comes to know by loads alone.
-use Rattle.std.specs.Prelude.{◌≡◌, ℕ, ◌+◌, ◌%◌, ◌^◌, List, ◌++◌}
+use Rattle.std.specs.Prelude.{◌≡◌, ◌⊎◌, ℕ, ◌+◌, ◌%◌, ◌^◌, List, ◌++◌}
 use Rattle.ng_view.specs.Lists.{Among}
 use Rattle.ng_view.specs.declared.view.View.{View}
 
@@ -33,3 +33,7 @@ pub record IsBareIn (words : List (ℕ × ℕ)) (meta : ℕ) : Type 0 where
   pub no_avail : avail % 2 ^ 32 ≡ 0
   pub avail_read : Among {A = ℕ × ℕ} (meta + 24, avail) words
   pub freed_read : Among {A = ℕ × ℕ} (meta + 28, 0) words
+
+-- no mask that was read or fetched had a slot: each of these words had a lower half of 0, but for word 0, where no mask is
+abbrev pub AllBare : List (ℕ × ℕ) → Type 0
+AllBare words = (word : ℕ × ℕ) → Among {A = ℕ × ℕ} word words → (word.0 ≡ 0) ⊎ (word.1 % 2 ^ 32 ≡ 0)

@@ -67,6 +67,17 @@ module _ (start : Start) (v : View) (span : Span) (live : List mapper.Run) (refu
       omega (arith, bounded.inside, is.size))
       area
 
+-- word 0 was read as the run came, and as it became an area
+pub noted_twice : (start : Start) (v u w : View) (a : ℕ) → MapsRun start v a 1 u → ((found : ℕ) × (w.readings ≡ u.readings ++ (0, found) ∷ []))
+    → (first : ℕ) × (second : ℕ) × (w.readings ≡ v.readings ++ (0, first) ∷ (0, second) ∷ [])
+noted_twice start v u w a maps (found, reads) = (
+  maps.note.found,
+  found,
+  reads
+      ∙ ap (λ (x : View). x.readings ++ (0, found) ∷ []) maps.note.view
+      ∙ append_assoc v.readings ((0, maps.note.found) ∷ []) ((0, found) ∷ []),
+)
+
 -- the run is ready to become an area
 pub cleared : (start : Start) (v u : View) (a : ℕ) → MapsRun start v a 1 u → IsClearedRun u a 1
 cleared start v u a maps = record {

@@ -1,5 +1,5 @@
 -- The metas that come of the heap's stock.
-use Rattle.std.specs.Prelude.{◌≡◌, ◌≢◌, ◌⊎◌, ℕ, ◌+◌, true, List, [], ◌∷◌, Some, Contains, drop, slice_get}
+use Rattle.std.specs.Prelude.{◌≡◌, ◌≢◌, ◌⊎◌, ℕ, ◌+◌, true, List, [], ◌∷◌, ◌++◌, Some, Contains, drop, slice_get}
 use Rattle.ng_mapper.specs.Runs as mapper
 use Rattle.ng_shelf.specs.Stock.{Stock, free_of, metas_of}
 use Rattle.ng_view.specs.Layouts.{IsAreaAt}
@@ -26,13 +26,14 @@ pub record IsHeapStock (start : Start) (v : View) (s : Stock) : Type 0 where
 abbrev pub area_run : ℕ → Run
 area_run a = record { addr = a; pages = 1; area = true }
 
--- a page was mapped at a and became an area, whose metas the stock has
+-- a page was mapped at a and became an area, whose metas the stock has: word 0 alone was read, at each of two notes
 pub record AddsArea (start : Start) (v : View) (live : List mapper.Run) (s : Stock) (a : ℕ) (w : View) (live' : List mapper.Run) (s' : Stock) : Type 0 where
   pub space : IsInSpace start a 1
   pub new : IsNewRun start v a 1
   pub mapped : mapper.AddsRun live live' (a, 1)
   pub view : OnlyCells (with_runs v (area_run a ∷ v.desk.layout.runs)) w
   pub kept : KeepsOutside v w a (a + 4096)
+  pub reads : (first : ℕ) × (second : ℕ) × (w.readings ≡ v.readings ++ (0, first) ∷ (0, second) ∷ [])
   pub stock : s' ≡ record s { unused = metas_of a; area = a }
 
 -- the next meta of the stock was taken, which then has it no more

@@ -1,6 +1,6 @@
 use Rattle.std.proofs.Common.{◌%◌, ◌/◌, ap, ◌∙◌, inl, refl, arith}
 use Rattle.ng_view.specs.declared.view.Start.{Start}
-use Rattle.ng_build.proofs.Areas.{area_1, area_2, area_3, area_built, area_kept, area_metas, area_view, low_half_is, run_cell, run_head}
+use Rattle.ng_build.proofs.Areas.{area_1, area_2, area_3, area_built, area_kept, area_metas, area_reads, area_view, low_half_is, run_cell, run_head}
 use Rattle.ng_build.proofs.area.make_area.Goals as goal
 
 pub store_page-requires-clause-may : goal.store_page-requires-clause-may
@@ -30,6 +30,9 @@ note_area-requires g c = record {
 
 pub returns-clause-view : goal.returns-clause-view
 returns-clause-view g c = area_view g.N.Name.facts.start _ _ _ _ _ c.args.addr c.args.before _ _ c.requires.run c.requires.whole c.store_page.ensures c.store_page-2.ensures c.store_page-3.ensures c.store_page-4.ensures _ c.note_area.ensures
+
+pub returns-clause-reads : goal.returns-clause-reads
+returns-clause-reads g c = area_reads g.N.Name.facts.start _ _ _ _ _ c.args.addr c.args.before _ _ c.requires.run c.requires.whole c.store_page.ensures c.store_page-2.ensures c.store_page-3.ensures c.store_page-4.ensures _ c.note_area.ensures
 
 pub returns-clause-metas : goal.returns-clause-metas
 returns-clause-metas g c = area_metas g.N.Name.facts.start _ _ _ _ _ c.args.addr c.args.before _ _ c.requires.run c.requires.whole c.store_page.ensures c.store_page-2.ensures c.store_page-3.ensures c.store_page-4.ensures _ c.note_area.ensures

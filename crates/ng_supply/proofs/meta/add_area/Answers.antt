@@ -1,5 +1,5 @@
 use Rattle.std.proofs.Common.{◌<◌, arith}
-use Rattle.ng_supply.proofs.AreaLemmas.{area_low, cleared, kept_area, mapper_area, none_there, only_area, stock_area}
+use Rattle.ng_supply.proofs.AreaLemmas.{area_low, cleared, kept_area, mapper_area, noted_twice, none_there, only_area, stock_area}
 use Rattle.ng_supply.proofs.meta.add_area.Goals as goal
 
 pub make_area-requires-clause-run : goal.make_area-requires-clause-run
@@ -27,6 +27,7 @@ returns-clause-ok g c =
       mapped = c.in_ok-addr.ensures.mapped;
       view = only_area g.N.Name.facts.start c.args.seat.now c.map_run.new.seat c.make_area.new.seat c.in_ok-addr.addr maps none c.make_area.ensures.view;
       kept = kept_area g.N.Name.facts.start c.args.seat.now c.map_run.new.seat c.make_area.new.seat c.in_ok-addr.addr maps none c.make_area.ensures.view c.make_area.ensures.kept;
+      reads = noted_twice g.N.Name.facts.start c.args.seat.now c.map_run.new.seat c.make_area.new.seat c.in_ok-addr.addr maps c.make_area.ensures.reads;
       stock = c.add_area.ensures.metas;
     }
 

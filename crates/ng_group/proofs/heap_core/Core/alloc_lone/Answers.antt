@@ -81,7 +81,7 @@ pub returns-in-Ok-clause-builds : goal.returns-in-Ok-clause-builds
 returns-in-Ok-clause-builds g c =
     passed_lone c.self.view_is (works_of c.self-inside.view_is) _
     (ap (λ (x : View). x.desk) c.slot_to_hand.ensures.seat)
-    c.args.bytes c.in-Ok.meta c.slot_to_hand.result.meta c.slot_to_hand.ensures.meta refl
+    c.args.bytes c.in-Ok.meta c.slot_to_hand.result.meta c.slot_to_hand.ensures.meta refl refl
     c.in-Ok.ensures.builds
 
 -- ---- the seat passed on an excuse
@@ -135,8 +135,9 @@ returns-in-Err-clause-excused g c = gains-in-Err g c
 
 pub returns-in-Err-clause-cause : goal.returns-in-Err-clause-cause
 returns-in-Err-clause-cause g c =
-    passed_lone_cause (λ m. (g.M.Mapper.refused m).last) c.self.view_is (works_of c.self-inside.view_is) c.excuse_to_hand.new.seat
+    passed_lone_cause (λ m. (g.M.Mapper.refused m).last) c.self.view_is (works_of c.self-inside.view_is) (record c.args.self.now { seat = c.excuse_to_hand.new.seat; bounces = _ })
     (ap (λ (x : View). x.desk) c.excuse_to_hand.ensures.seat)
+    refl
     c.args.bytes
     c.in-Err.ensures.cause
 

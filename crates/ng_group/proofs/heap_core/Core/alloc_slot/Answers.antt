@@ -1,7 +1,7 @@
-use Rattle.std.proofs.Common.{ap, refl, sym, ◌∙◌, arith}
+use Rattle.std.proofs.Common.{ap, refl, sym, ◌∙◌, arith, inl, inr}
 use Rattle.ng_view.specs.declared.view.View.{View}
 use Rattle.ng_group.specs.Hands.{GainsExcuse, GainsSlot}
-use Rattle.ng_group.proofs.AskedLemmas.{builds_none, passed_builds, passed_cause, passed_leaves}
+use Rattle.ng_group.proofs.AskedLemmas.{passed_builds, passed_cause, passed_leaves}
 use Rattle.ng_group.proofs.CallLemmas.{Refuses, Serves, bounded_calm, bounded_most, excuse_found, excuse_number, first_place, refuses_at, rests_excuse, rests_slot, serves_at, slot_found, slot_motion, slot_place, works_of}
 use Rattle.ng_group.proofs.HandKeepLemmas.{apart_of, excused_blocks, excused_slots, gained_blocks, gained_slots}
 use Rattle.ng_group.proofs.HandSlotLemmas.{Tried, excused, passed, passed_slot, tried_not, tried_pop, won, won_slot}
@@ -43,7 +43,7 @@ pub returns-in-Won-clause-blocks : goal.returns-in-Won-clause-blocks
 returns-in-Won-clause-blocks g c = gained_blocks c.args.hand.now c.pop.new.hand c.in-Won.slot c.pop.ensures.number (gains_won g c) c.in-Won.ensures.once
 
 pub returns-in-Won-clause-builds : goal.returns-in-Won-clause-builds
-returns-in-Won-clause-builds g c = builds_none (g.P.Rules.count_gives c.args.self.now.rules) c.args.self.now c.args.class c.args.bytes
+returns-in-Won-clause-builds g c = inl refl
 
 pub returns-in-Won-clause-on : goal.returns-in-Won-clause-on
 returns-in-Won-clause-on g c = goes_same c.args.self.now.seat
@@ -136,11 +136,12 @@ returns-in-Ok-clause-blocks g c =
 
 pub returns-in-Ok-clause-builds : goal.returns-in-Ok-clause-builds
 returns-in-Ok-clause-builds g c =
-    passed_builds g.P.Rules.count_gives (λ m. (g.M.Mapper.refused m).last) c.args.class c.args.bytes c.self.view_is (works_of c.self-inside-2.view_is) _
+    inr (passed_builds g.P.Rules.count_gives (λ m. (g.M.Mapper.refused m).last) c.args.class c.args.bytes c.self.view_is (works_of c.self-inside-2.view_is) _
     (ap (λ (x : View). x.desk) c.slot_to_hand.ensures.seat)
     (ap (λ (x : View). x.readings) c.slot_to_hand.ensures.seat)
     refl
-    c.in-Ok.ensures.builds
+    refl
+    c.in-Ok.ensures.builds)
 
 -- ---- the seat passed on an excuse
 pub excuse_to_hand-requires : goal.excuse_to_hand-requires
@@ -210,6 +211,7 @@ returns-in-Err-clause-cause g c =
     passed_cause g.P.Rules.count_gives (λ m. (g.M.Mapper.refused m).last) c.args.class c.args.bytes c.self.view_is (works_of c.self-inside-2.view_is) _
     (ap (λ (x : View). x.desk) c.excuse_to_hand.ensures.seat)
     (ap (λ (x : View). x.readings) c.excuse_to_hand.ensures.seat)
+    refl
     c.in-Err.ensures.cause
 
 pub returns-in-Err-clause-leaves : goal.returns-in-Err-clause-leaves

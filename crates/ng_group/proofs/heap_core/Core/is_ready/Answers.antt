@@ -1,7 +1,9 @@
-use Rattle.std.proofs.Common.{ap, ◌∙◌, arith, sym, subst}
+use Rattle.std.proofs.Common.{ap, ◌∙◌, arith, sym, subst, refl}
 use Rattle.ng_group.specs.Opening.{IsMostBounded}
+use Rattle.ng_lists.specs.Rings.{ring_of}
+use Rattle.ng_group.specs.States.{State}
 use Rattle.ng_group.specs.declared.heap_core.Core.TheInside.{Inside}
-use Rattle.ng_group.proofs.ClassForLemmas.{came_at, cells_at, masks_at, notes_at, ready_at, rests_at, test_avail, test_freed}
+use Rattle.ng_group.proofs.ClassForLemmas.{came_at, cells_at, empty_ready, masks_at, notes_at, ready_at, rests_at, test_avail, test_freed}
 use Rattle.ng_group.proofs.heap_core.Core.is_ready.Goals as goal
 
 pub overflow_add-first : goal.overflow_add-first
@@ -70,3 +72,9 @@ pub returns-else-mask_of-ne0-clause-notes : goal.returns-else-mask_of-ne0-clause
 returns-else-mask_of-ne0-clause-notes g c =
     let reads = masks_at g.N.Name.facts.start g.M.Mapper.span g.M.Mapper.runs g.M.Mapper.refused c.args.class c.in-Some.first c.load_seat-avail.result c.load_seat-freed.result (ap (λ (x : Inside g.row.N.Denot g.row.M.Denot g.row.P.Denot). x.works) c.self-inside.view_is) c.self.invariant.0 c.requires.class c.in-Some.ensures.first c.load_seat-avail.ensures.view c.load_seat-freed.ensures.view in
     notes_at ((ap (λ (x : Inside g.row.N.Denot g.row.M.Denot g.row.P.Denot). x.works) c.self-inside.view_is) ∙ c.self.view_is) reads
+
+pub returns-in_default-clause-ready : goal.returns-in_default-clause-ready
+returns-in_default-clause-ready g c =
+    let same = ap (λ (x : Inside g.row.N.Denot g.row.M.Denot g.row.P.Denot). x.works) c.self-inside.view_is ∙ c.self.view_is in
+    empty_ready c.args.self.now.seat (ring_of c.args.self.now.rings c.args.class)
+    (sym (ap (λ (s : State g.row.M.Denot g.row.P.Denot). ring_of s.rings c.args.class) same) ∙ c.in_default.ensures.none.0 refl)

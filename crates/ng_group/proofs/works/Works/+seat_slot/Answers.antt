@@ -4,7 +4,7 @@ use Rattle.ng_policy.specs.declared.ask.Ask.{Ask}
 use Rattle.ng_ledger.specs.Rings.{IsBare}
 use Rattle.ng_group.specs.Building.{IsAsk}
 use Rattle.ng_group.specs.States.{State}
-use Rattle.ng_group.proofs.AskingLemmas.{area_cause, area_leaves, none_inside, only_inside}
+use Rattle.ng_group.proofs.AskingLemmas.{area_cause, area_leaves, gets_served, none_inside, only_inside}
 use Rattle.ng_group.proofs.BuildingLemmas.{on_err}
 use Rattle.ng_group.proofs.LoneSeatLemmas.{stock_at}
 use Rattle.ng_group.proofs.RecursionLemmas.{absent_at}
@@ -84,6 +84,10 @@ pub returns-in-Some-clause-below : goal.returns-in-Some-clause-below
 returns-in-Some-clause-below g t c =
     only_below c.args.class c.args.self.now c.serve_ring.new.self c.requires.class c.in-Some.ensures.only
 
+pub returns-in-Some-clause-builds : goal.returns-in-Some-clause-builds
+returns-in-Some-clause-builds g t c =
+    gets_served (g.P.Rules.count_gives c.args.self.now.rules) c.args.self.now c.serve_ring.new.self c.args.class c.args.bytes c.in-Some.ensures.only c.in-Some.ensures.source
+
 pub find_meta-requires-clause-stock : goal.find_meta-requires-clause-stock
 find_meta-requires-clause-stock g t c =
     stock_at g.N.Name.facts.start g.M.Mapper.span g.M.Mapper.runs g.M.Mapper.refused c.self.view_is c.in_default.ensures.working
@@ -148,7 +152,7 @@ returns-in-Ok-clause-builds g t c =
     mapped_builds (asked g t (goal.at.returns-in-Ok-clause-builds g t c).In_ok-meta
     c.ask-ask.ensures.asks c.count-count.ensures.answer c.count-count.ensures.allowed) c.args.bytes
     (is_large c.is_nested_size.result c.is_nested_size.ensures c.if-not-is_nested_size.true)
-    c.build_mapped.new.self c.in-Ok.ensures.on c.in-Ok.ensures.built c.in-Ok.ensures.run c.in-Ok.ensures.counted
+    c.build_mapped.new.self c.in-Ok.ensures.on c.in-Ok.ensures.built c.in-Ok.ensures.run c.in-Ok.ensures.counted c.build_mapped.ensures.bounces
 
 pub returns-in-Err-clause-working : goal.returns-in-Err-clause-working
 returns-in-Err-clause-working g t c =
@@ -176,7 +180,7 @@ returns-in-Err-clause-cause g t c =
     c.ask-ask.ensures.asks c.count-count.ensures.answer c.count-count.ensures.allowed) c.args.bytes
     c.build_mapped.new.self c.self-then-not-is_nested_size.view_is c.put.new.self
     (is_large c.is_nested_size.result c.is_nested_size.ensures c.if-not-is_nested_size.true)
-    c.in-Err.ensures.on c.in-Err.ensures.left g.M.Mapper.refused c.in-Err.ensures.asked
+    c.in-Err.ensures.left c.build_mapped.ensures.bounces g.M.Mapper.refused c.in-Err.ensures.asked
 
 pub returns-in-Err-clause-leaves : goal.returns-in-Err-clause-leaves
 returns-in-Err-clause-leaves g t c =
@@ -184,7 +188,7 @@ returns-in-Err-clause-leaves g t c =
     c.ask-ask.ensures.asks c.count-count.ensures.answer c.count-count.ensures.allowed) c.args.bytes
     c.build_mapped.new.self c.self-then-not-is_nested_size.view_is c.put.new.self
     (is_large c.is_nested_size.result c.is_nested_size.ensures c.if-not-is_nested_size.true)
-    c.in-Err.ensures.on c.in-Err.ensures.left
+    c.in-Err.ensures.left
 
 pub returns-in-Err-clause-most : goal.returns-in-Err-clause-most
 returns-in-Err-clause-most g t c =
@@ -232,9 +236,9 @@ returns-in-Ok-seat_slot-clause-builds g t c =
     nested_builds (asked g t (goal.at.returns-in-Ok-seat_slot-clause-builds g t c).In_ok-meta
     c.ask-ask.ensures.asks c.count-count.ensures.answer c.count-count.ensures.allowed) c.args.bytes
     (is_small c.is_nested_size.result c.is_nested_size.ensures c.if-not-is_nested_size.false)
-    c.slot_for_group-carried.result.class c.slot_for_group-carried.result.bytes c.slot_for_group-carried.ensures.bytes c.slot_for_group-carried.ensures.least
+    c.slot_for_group-carried.result.class c.slot_for_group-carried.result.bytes c.slot_for_group-carried.ensures.bytes c.slot_for_group-carried.ensures.least c.requires.class
     c.seat_slot.new.self c.build_nested.new.self c.in-Ok-seat_slot.ensures.builds
-    c.build_nested.ensures.on c.build_nested.ensures.built c.build_nested.ensures.runs c.build_nested.ensures.counter
+    c.build_nested.ensures.on c.build_nested.ensures.built c.build_nested.ensures.runs c.build_nested.ensures.counter c.build_nested.ensures.bounces
 
 pub returns-in-Err-seat_slot-clause-working : goal.returns-in-Err-seat_slot-clause-working
 returns-in-Err-seat_slot-clause-working g t c =

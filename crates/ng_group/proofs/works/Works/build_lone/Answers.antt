@@ -7,7 +7,7 @@ use Rattle.ng_group.specs.Steps.{HandsOver}
 use Rattle.ng_group.proofs.BuildingLemmas.{on_err}
 use Rattle.ng_group.proofs.LoneAskedLemmas.{lone_left}
 use Rattle.ng_group.proofs.LoneLemmas.{ComesAlone, built_alone, hand_alone, lone_in_space, lone_live, may_build_lone, pages_asked, pages_hold, served_alone, working_alone}
-use Rattle.ng_group.proofs.MappingLemmas.{meta_outside, meta_ready, run_ready, view_refused, with_seat, working_refused}
+use Rattle.ng_group.proofs.MappingLemmas.{meta_outside, meta_ready, noted_refused, run_ready, view_refused, with_seat, working_refused}
 use Rattle.ng_group.proofs.works.Works.build_lone.Given.{Over}
 use Rattle.ng_group.proofs.works.Works.build_lone.Goals as goal
 
@@ -103,4 +103,4 @@ returns-in_err-base-clause-most g c =
 pub returns-in_err-base-clause-left : goal.returns-in_err-base-clause-left
 returns-in_err-base-clause-left g c =
     let may = may_build_lone g.N.Name.facts.start g.M.Mapper.span g.M.Mapper.runs g.M.Mapper.refused c.args.meta c.self.view_is c.requires.working c.requires.meta in
-    on_err c.from_residual.result (lone_left _ c.args.self.now _ c.self.view_is (view_refused may.working c.in_err-base.ensures.err) refl refl refl refl)
+    on_err c.from_residual.result (lone_left _ c.args.self.now _ c.self.view_is (view_refused may.working c.in_err-base.ensures.err) (noted_refused may.working c.in_err-base.ensures.err) refl refl refl refl)

@@ -7,7 +7,7 @@ use Rattle.ng_group.specs.Serving.{HasServed}
 use Rattle.ng_group.specs.States.{IsWorking, State, ledger_of}
 use Rattle.ng_group.specs.Steps.{HandsOver, LeavesBelow}
 use Rattle.ng_group.proofs.BuildingLemmas.{few_used, on_err, roomy, shaped_group}
-use Rattle.ng_group.proofs.MappingLemmas.{ComesOnRun, absent, below_mapped, group_in_space, groups_mapped, hand_mapped, may_build, meta_outside, meta_ready, motion_mapped, run_ready, served_mapped, view_refused, working_mapped, working_refused}
+use Rattle.ng_group.proofs.MappingLemmas.{ComesOnRun, absent, below_mapped, group_in_space, groups_mapped, hand_mapped, may_build, meta_outside, meta_ready, motion_mapped, noted_refused, run_ready, served_mapped, view_refused, working_mapped, working_refused}
 use Rattle.ng_group.proofs.works.Works.build_mapped.Given.{Over}
 use Rattle.ng_group.proofs.works.Works.build_mapped.Goals as goal
 
@@ -20,7 +20,7 @@ pub returns-in_err-base-clause-left : goal.returns-in_err-base-clause-left
 returns-in_err-base-clause-left g c =
     let may = may_build g.N.Name.facts.start g.M.Mapper.span g.M.Mapper.runs g.M.Mapper.refused c.args.ask.now.class c.args.meta c.self.view_is c.requires.working c.requires.meta c.requires.bare in
     on_err c.from_residual.result (subst (λ (s : State g.row.M.Denot g.row.P.Denot). LeavesAll s (record { seat = c.map_run.new.seat; rings = c.self.inside.rings; stock = c.self.inside.stock; parents = c.self.inside.parents; usage = c.self.inside.usage; bounces = c.step.new.self; counter = c.self.inside.counter; mapper = c.map_run.new.mapper; rules = c.self.inside.rules })) c.self.view_is
-    (record { seat = view_refused may.working c.in_err-base.ensures.err; rings = refl; parents = refl; usage = refl; counter = refl }))
+    (record { seat = view_refused may.working c.in_err-base.ensures.err; noted = noted_refused may.working c.in_err-base.ensures.err; rings = refl; parents = refl; usage = refl; counter = refl }))
 
 pub publish_run-requires-clause-meta : goal.publish_run-requires-clause-meta
 publish_run-requires-clause-meta g c =

@@ -20,11 +20,11 @@ next-requires g c = record {
 
 pub returns-then-note_ring-ne0-clause-working : goal.returns-then-note_ring-ne0-clause-working
 returns-then-note_ring-ne0-clause-working g c =
-    (first_stays g.N.Name.facts.start g.M.Mapper.span g.M.Mapper.runs g.M.Mapper.refused _ _ c.args.class c.args.first c.note_ring.result c.note_ring.new.seat c.self.view_is c.requires.bare c.if-note_ring-ne0.true c.note_ring.ensures c.requires.working).working
+    (first_stays g.N.Name.facts.start g.M.Mapper.span g.M.Mapper.runs g.M.Mapper.refused _ _ c.args.class c.args.first c.note_ring.result c.note_ring.new.seat c.self.view_is c.requires.class c.requires.first c.requires.bare c.if-note_ring-ne0.true c.note_ring.ensures c.requires.working).working
 
 pub returns-then-note_ring-ne0-clause-walk : goal.returns-then-note_ring-ne0-clause-walk
 returns-then-note_ring-ne0-clause-walk g c =
-    (first_stays g.N.Name.facts.start g.M.Mapper.span g.M.Mapper.runs g.M.Mapper.refused _ _ c.args.class c.args.first c.note_ring.result c.note_ring.new.seat c.self.view_is c.requires.bare c.if-note_ring-ne0.true c.note_ring.ensures c.requires.working).walk
+    (first_stays g.N.Name.facts.start g.M.Mapper.span g.M.Mapper.runs g.M.Mapper.refused _ _ c.args.class c.args.first c.note_ring.result c.note_ring.new.seat c.self.view_is c.requires.class c.requires.first c.requires.bare c.if-note_ring-ne0.true c.note_ring.ensures c.requires.working).walk
 
 pub returns-then-note_ring-ne0-clause-start : goal.returns-then-note_ring-ne0-clause-start
 returns-then-note_ring-ne0-clause-start g c =

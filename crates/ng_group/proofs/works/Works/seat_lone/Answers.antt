@@ -36,21 +36,22 @@ returns-in-Ok-clause-builds g c =
     c.args.bytes
     c.build_lone.new.self
     c.in-Ok.ensures.built
+    c.build_lone.ensures.bounces
 
 -- ---- the block's run was refused
 pub returns-in-Err-clause-cause : goal.returns-in-Err-clause-cause
 returns-in-Err-clause-cause g c =
     lone_cause g.N.Name.facts.start g.M.Mapper.runs _ c.args.self.now c.self.view_is c.in_ok-meta.meta
     c.find_meta.new.seat c.find_meta.new.stock c.find_meta.new.mapper c.in_ok-meta.ensures.ok
-    c.build_lone.new.self c.self-2.inside.seat c.in-Err.ensures.left (ap (λ (s : State g.row.M.Denot g.row.P.Denot). s.seat) c.self-2.view_is) c.args.bytes _
+    c.build_lone.new.self (record c.args.self.now { seat = c.self-2.inside.seat; bounces = c.self-2.inside.bounce }) c.in-Err.ensures.left (ap (λ (s : State g.row.M.Denot g.row.P.Denot). s.seat) c.self-2.view_is) c.args.bytes _
     (ap (λ (s : State g.row.M.Denot g.row.P.Denot). (g.M.Mapper.refused s.mapper).last) c.self-2.view_is ∙ c.in-Err.ensures.asked)
+    (ap (λ (s : State g.row.M.Denot g.row.P.Denot). s.bounces) c.self-2.view_is ∙ c.build_lone.ensures.bounces)
 
 pub returns-in-Err-clause-leaves : goal.returns-in-Err-clause-leaves
 returns-in-Err-clause-leaves g c =
     lone_leaves g.N.Name.facts.start g.M.Mapper.runs _ c.args.self.now c.self.view_is c.in_ok-meta.meta
     c.find_meta.new.seat c.find_meta.new.stock c.find_meta.new.mapper c.in_ok-meta.ensures.ok
     c.build_lone.new.self _ c.in-Err.ensures.left (ap (λ (s : State g.row.M.Denot g.row.P.Denot). s.seat) c.self-2.view_is)
-    c.in-Err.ensures.on
     (ap (λ (s : State g.row.M.Denot g.row.P.Denot). s.rings) c.self-2.view_is)
     (ap (λ (s : State g.row.M.Denot g.row.P.Denot). s.usage) c.self-2.view_is)
     (ap (λ (s : State g.row.M.Denot g.row.P.Denot). s.counter) c.self-2.view_is)
@@ -66,7 +67,7 @@ returns-in-Err-clause-most g c =
 pub returns-in_err-meta-clause-cause : goal.returns-in_err-meta-clause-cause
 returns-in_err-meta-clause-cause g c =
     on_err c.from_residual.result
-    (area_cause _ c.args.self.now c.self.view_is _ _ _ c.find_meta.new.seat c.in_err-meta.ensures.err c.args.bytes c.in_err-meta.ensures.none)
+    (area_cause _ c.args.self.now c.self.view_is _ _ _ c.find_meta.new.seat c.in_err-meta.ensures.err (record c.args.self.now { seat = c.find_meta.new.seat; bounces = c.self.inside.bounce }) refl refl c.args.bytes c.in_err-meta.ensures.none)
 
 pub returns-in_err-meta-clause-leaves : goal.returns-in_err-meta-clause-leaves
 returns-in_err-meta-clause-leaves g c =
