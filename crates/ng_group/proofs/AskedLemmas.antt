@@ -14,8 +14,8 @@ use Rattle.ng_group.specs.Steps.{Came}
 
 -- the desk and the readings of the seat are the same later
 module _ {M P : Type 0} (before after later : State M P) (desk : later.seat.desk ≡ after.seat.desk) where
-  pub lone_still : (meta bytes : ℕ) → later.counter ≡ after.counter → later.bounces ≡ after.bounces → BuildsLone meta before after bytes → BuildsLone meta before later bytes
-  lone_still meta bytes counter bounces builds = record {
+  pub lone_still : (meta bytes : ℕ) → later.seat.readings ≡ after.seat.readings → later.counter ≡ after.counter → later.bounces ≡ after.bounces → BuildsLone meta before after bytes → BuildsLone meta before later bytes
+  lone_still meta bytes readings counter bounces builds = record {
     group = builds.group;
     of_meta = builds.of_meta;
     of_class = builds.of_class;
@@ -27,6 +27,8 @@ module _ {M P : Type 0} (before after later : State M P) (desk : later.seat.desk
     run = ap (λ (d : Desk). d.layout.runs) desk ∙ builds.run;
     counter = counter ∙ builds.counter;
     bounces = bounces ∙ builds.bounces;
+    came = record { words = builds.came.words; readings = readings ∙ builds.came.readings };
+    all = builds.all;
   }
 
   pub lone_cause_still : (bytes pages : ℕ) → later.bounces ≡ after.bounces → IsLoneRefused before after bytes pages → IsLoneRefused before later bytes pages
@@ -150,11 +152,11 @@ module _ {M P : Type 0} {w w' s s' : State M P} (same : w ≡ w') (same_then : s
       leaves_still w' s later desk readings rings usage counter (subst (LeavesHeap w') (sym same_then) before)
 
   -- of which the hand's slot tells the meta
-  pub passed_lone : (bytes meta told : ℕ) → told ≡ meta → later.counter ≡ s.counter → later.bounces ≡ s.bounces → BuildsLone meta w s' bytes → BuildsLone told w' later bytes
-  passed_lone bytes meta told is counter bounces builds =
+  pub passed_lone : (bytes meta told : ℕ) → told ≡ meta → later.seat.readings ≡ s.seat.readings → later.counter ≡ s.counter → later.bounces ≡ s.bounces → BuildsLone meta w s' bytes → BuildsLone told w' later bytes
+  passed_lone bytes meta told is readings counter bounces builds =
       let before : BuildsLone meta w' s' bytes = subst (λ (x : State M P). BuildsLone meta x s' bytes) same builds in
       let passed : BuildsLone meta w' later bytes =
-      lone_still w' s later desk meta bytes counter bounces (subst (λ (x : State M P). BuildsLone meta w' x bytes) (sym same_then) before) in
+      lone_still w' s later desk meta bytes readings counter bounces (subst (λ (x : State M P). BuildsLone meta w' x bytes) (sym same_then) before) in
       subst (λ (m : ℕ). BuildsLone m w' later bytes) (sym is) passed
 
 pub passed_lone_cause : {M P : Type 0} (last : M → ℕ) {w w' s s' : State M P} → w ≡ w' → s ≡ s' → (later : State M P) → later.seat.desk ≡ s.seat.desk → later.bounces ≡ s.bounces

@@ -1,5 +1,5 @@
 -- What a call for a block that is a group by itself builds and asks for.
-use Rattle.std.proofs.Common.{◌≡◌, ◌⊎◌, ℕ, ◌≤◌, max, List, true, [], ◌∷◌, ◌++◌, refl, sym, ap, subst, ◌∙◌, ⊎_elim, inl, inr, arith}
+use Rattle.std.proofs.Common.{◌≡◌, ◌⊎◌, ℕ, ◌+◌, ◌%◌, ◌^◌, ◌≤◌, max, List, true, [], ◌∷◌, ◌++◌, refl, sym, ap, subst, ◌∙◌, ⊎_elim, inl, inr, arith}
 use Rattle.ng_lists.specs.Rings.{RingTable, ring_of}
 use Rattle.ng_mapper.specs.Runs as mapper
 use Rattle.ng_mapper.specs.declared.refusals.Refusals.{Refusals}
@@ -65,6 +65,11 @@ module _ {M P : Type 0} (start : Start) (runs : M → List mapper.Run) (s s' : S
   found_came : (c : Came s.seat w) × AllBare c.words
   found_came = supply_came start (runs s.mapper) (runs now) s.seat s.stock meta w stock finds
 
+  noted_bare : (found : ℕ) → AllBare ((0, found) ∷ (meta + 28, 0) ∷ [])
+  noted_bare found word (inl first) = inl (ap (λ (x : ℕ × ℕ). x.0) first)
+  noted_bare found word (inr (inl second)) = inr (ap (λ (x : ℕ × ℕ). x.1 % 2 ^ 32) second)
+  noted_bare found word (inr (inr none)) = absurd none
+
   -- and the group came
   pub lone_builds : (bytes : ℕ) (after : State M P) → BuildsAlone meta (pages_for bytes) mid after → after.bounces ≡ stepped s.bounces → BuildsLone meta s' after bytes
   lone_builds bytes after built steps = subst (λ (x : State M P). BuildsLone meta x after bytes) same (record {
@@ -79,6 +84,8 @@ module _ {M P : Type 0} (start : Start) (runs : M → List mapper.Run) (s s' : S
     run = built.run;
     counter = built.counter;
     bounces = steps;
+    came = came_on s.seat w after.seat found_came.0 (record { words = (0, built.noted.0) ∷ (meta + 28, 0) ∷ []; readings = built.noted.1 });
+    all = all_then found_came.0.words ((0, built.noted.0) ∷ (meta + 28, 0) ∷ []) found_came.1 (noted_bare built.noted.0);
   })
 
   -- or its run was refused

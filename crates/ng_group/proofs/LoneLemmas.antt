@@ -1,5 +1,5 @@
 -- What stands of the books once a group that is one block has come on a run of its own.
-use Rattle.std.proofs.Common.{◌≡◌, ◌≢◌, ◌⊎◌, ℕ, ◌+◌, ◌-◌, ◌*◌, ◌/◌, ◌%◌, ◌^◌, ◌<◌, ◌≤◌, min, eqb, cond, Bool, false, true, List, [], ◌∷◌, ◌++◌, Contains, refl, sym, ap, subst, ◌∙◌, ⊎_elim, inl, inr, arith}
+use Rattle.std.proofs.Common.{◌≡◌, ◌≢◌, ◌⊎◌, ℕ, ◌+◌, ◌-◌, ◌*◌, ◌/◌, ◌%◌, ◌^◌, ◌<◌, ◌≤◌, min, eqb, cond, Bool, false, true, List, [], ◌∷◌, ◌++◌, Contains, refl, sym, ap, subst, ◌∙◌, ⊎_elim, inl, inr, arith, append_assoc}
 use Rattle.std.proofs.lemmas.Bool.{cases_eq, eq-eqb}
 use Rattle.std.proofs.lemmas.Grind.{div_ceil_times}
 use Rattle.ng_build.specs.Cells.{knowing}
@@ -292,5 +292,11 @@ module _ {start : Start} {span span' : Span} {live live' : List mapper.Run} {was
     run = ap (λ (x : View). x.desk.layout.runs) (is ∙ view)
         ∙ ap (λ n. plain_run g.base n ∷ l.seat.desk.layout.runs) paged
         ∙ ap (λ (x : View). plain_run g.base pages ∷ x.desk.layout.runs) (sym was);
+    noted = (
+      c.note.found,
+      ap (λ (x : View). x.readings) (is ∙ view)
+          ∙ append_assoc l.seat.readings ((0, c.note.found) ∷ []) ((g.meta + 28, 0) ∷ [])
+          ∙ ap (λ (x : View). x.readings ++ (0, c.note.found) ∷ (g.meta + 28, 0) ∷ []) (sym was),
+    );
     counter = counter;
   })

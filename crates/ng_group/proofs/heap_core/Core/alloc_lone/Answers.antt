@@ -81,7 +81,7 @@ pub returns-in-Ok-clause-builds : goal.returns-in-Ok-clause-builds
 returns-in-Ok-clause-builds g c =
     passed_lone c.self.view_is (works_of c.self-inside.view_is) _
     (ap (λ (x : View). x.desk) c.slot_to_hand.ensures.seat)
-    c.args.bytes c.in-Ok.meta c.slot_to_hand.result.meta c.slot_to_hand.ensures.meta refl refl
+    c.args.bytes c.in-Ok.meta c.slot_to_hand.result.meta c.slot_to_hand.ensures.meta (ap (λ (x : View). x.readings) c.slot_to_hand.ensures.seat) refl refl
     c.in-Ok.ensures.builds
 
 -- ---- the seat passed on an excuse

@@ -1,0 +1,5 @@
+use Rattle.ng_group_tests.proofs.cell_tests.carrying_slots_have_their_headers.Given as goal
+
+-- the heap that was just made
+abbrev pub ghosts-nest_twice : goal.ghosts-nest_twice
+ghosts-nest_twice g a = record { table = a.blank.table; start = a.blank.start }
