@@ -13,21 +13,13 @@ use Rattle.ng_view.specs.Lists.{Among, count_of}
 use Rattle.ng_view.specs.declared.view.Group.{Group}
 use Rattle.ng_view.specs.declared.view.Run.{Run}
 use Rattle.ng_view.specs.declared.view.View.{View}
-use Rattle.ng_group.specs.Asking.{AreRising, AsksRun, GetsByRun, GetsFromRing, GetsSlot, HasSlots, IsAreaWanted, IsAsked, IsCarried, IsGroupWanted, IsLastWanted, IsRunWanted, IsWalked, LeavesHeap, RefusedWanted, Want, WantsArea, WantsRun, areas, carried_bytes, group_runs}
+use Rattle.ng_group.specs.Asking.{AsksRun, GetsByRun, GetsFromRing, GetsSlot, HasSlots, IsAreaWanted, IsAsked, IsCarried, IsGroupWanted, IsRunWanted, IsWalked, LeavesHeap, RefusedWanted, Want, WantsArea, WantsRun, areas, carried_bytes, group_runs}
 use Rattle.ng_group.specs.Building.{HasBuilt, LeavesAll}
 use Rattle.ng_group.specs.States.{State}
 use Rattle.ng_group.specs.Steps.{Came}
-use Rattle.ng_group.proofs.WantLemmas.{Seeks, TakesArea, TakesFree, area_first, area_more, bare_left, bare_right, came_on, carried_moved, last_first, last_more, no_area, run_more, runs_of}
+use Rattle.ng_group.proofs.WantLemmas.{Seeks, TakesArea, TakesFree, area_first, area_more, bare_left, bare_right, came_on, in_four, last_first, last_more, no_area, rising_less, run_more, runs_of, sought_more}
 use Rattle.ng_group.proofs.AskingLemmas.{one_zero, walked_here}
 use Rattle.ng_group.proofs.BuildingLemmas.{carrier_above}
-
--- ---- lists
-rising_less : (less class : ℕ) (gs : List Group) → less ≤ class → AreRising class gs → AreRising less gs
-rising_less less class [] below rising = tt
-rising_less less class (g ∷ gs) below (above, rest) = (omega (arith, below, above), rest)
-
-in_four : (ws xs ys zs : List (ℕ × ℕ)) → ws ++ ((xs ++ ys) ++ zs) ≡ (ws ++ xs) ++ (ys ++ zs)
-in_four ws xs ys zs = ap (λ (l : List (ℕ × ℕ)). ws ++ l) (append_assoc xs ys zs) ∙ sym (append_assoc ws xs (ys ++ zs))
 
 module _ {M P : Type 0} (counts : Ask → ℕ → Type 0) (s mid : State M P) (class bytes : ℕ) (sought : Seeks class s mid) (took : TakesFree s mid ⊎ TakesArea s mid)
     (w : Want) (of_class : w.class ≡ class) (of_bytes : w.bytes ≡ bytes) where
@@ -95,14 +87,14 @@ module _ {M P : Type 0} (counts : Ask → ℕ → Type 0) (s mid : State M P) (c
       new_runs = plain_run base (shape_of w.ask w.bytes w.count).pages ∷ more_runs.0;
       runs_are = runs ∙ ap (λ (rs : List Run). plain_run base (shape_of w.ask w.bytes w.count).pages ∷ rs) more_runs.1;
       runs = λ r there. run r (subst (λ (rs : List Run). Among r rs) runs there);
-      one_area = area_came words same_words (runs_of after) (ap areas runs ∙ none_more);
+      one_area = area_came sought.came.words (λ m bare. bare) (runs_of after) (ap areas runs ∙ none_more);
       new_groups = built.group ∷ [];
       groups_are = built.groups ∙ ap (λ (gs : List Group). built.group ∷ gs) sought.groups;
       groups = λ g there. group g (subst (λ (gs : List Group). Among g gs) built.groups there);
       rising = (let tag : built.group.tag ≡ class + 1 = built.of_class in omega (arith, tag), tt);
       source = inr (record {
         pages = (shape_of w.ask w.bytes w.count).pages;
-        wants = wants_run words same_words;
+        wants = wants_run sought.came.words (λ m bare. bare);
         runs = one_run;
         counter = counter ∙ ap (λ n. (n + 1) % 2 ^ 64) sought.counter;
         bounces = bounces
@@ -111,12 +103,6 @@ module _ {M P : Type 0} (counts : Ask → ℕ → Type 0) (s mid : State M P) (c
       });
     }
       where
-        words : List (ℕ × ℕ)
-        words = sought.came.words
-
-        same_words : (m : ℕ) → IsBareIn words m → IsBareIn words m
-        same_words m bare = bare
-
         none_more : areas (plain_run base (shape_of w.ask w.bytes w.count).pages ∷ runs_of mid) ≡ areas (runs_of mid)
         none_more = omega arith
 
@@ -125,9 +111,9 @@ module _ {M P : Type 0} (counts : Ask → ℕ → Type 0) (s mid : State M P) (c
             let all : group_runs (runs_of after) ≡ 1 + group_runs (runs_of mid) = ap group_runs runs in
             omega (arith, all, none_grouped)
 
-        run : (r : Run) → Among r (plain_run base (shape_of w.ask w.bytes w.count).pages ∷ runs_of mid) → IsRunWanted counts s words class bytes r
-        run r (inl same) = inr (inr (ap (λ (x : Run). x.area) same, subst (λ (x : Run). WantsRun counts s words class bytes x.pages) (sym same) (wants_run words same_words)))
-        run r (inr was) = run_was words same_words r was
+        run : (r : Run) → Among r (plain_run base (shape_of w.ask w.bytes w.count).pages ∷ runs_of mid) → IsRunWanted counts s sought.came.words class bytes r
+        run r (inl same) = inr (inr (ap (λ (x : Run). x.area) same, subst (λ (x : Run). WantsRun counts s sought.came.words class bytes x.pages) (sym same) (wants_run sought.came.words (λ m bare. bare))))
+        run r (inr was) = run_was sought.came.words (λ m bare. bare) r was
 
         slots_of : HasSlots w built.group
         slots_of = record {
@@ -136,8 +122,8 @@ module _ {M P : Type 0} (counts : Ask → ℕ → Type 0) (s mid : State M P) (c
           mapped = λ wide. built.of_slots ∙ slots_are;
         }
 
-        group : (g : Group) → Among g (built.group ∷ mid.seat.desk.groups) → IsGroupWanted counts s words class bytes g
-        group g (inl same) = inr (w, last_first counts s mid class bytes sought w of_class of_bytes words same_words asked, subst (λ (x : Group). HasSlots w x) (sym same) slots_of)
+        group : (g : Group) → Among g (built.group ∷ mid.seat.desk.groups) → IsGroupWanted counts s sought.came.words class bytes g
+        group g (inl same) = inr (w, last_first counts s mid class bytes sought w of_class of_bytes sought.came.words (λ m bare. bare) asked, subst (λ (x : Group). HasSlots w x) (sym same) slots_of)
         group g (inr was) = inl (subst (λ (gs : List Group). Among g gs) sought.groups was)
 
     -- its run was refused
@@ -232,18 +218,7 @@ module _ {M P : Type 0} (counts : Ask → ℕ → Type 0) (s mid : State M P) (c
           let reached : next ≤ from.sought = from.above in
           record {
             sought = from.sought;
-            is_sought = inr (⊎_elim
-                (λ (here : from.sought ≡ next). (
-                  w,
-                  last_first counts s mid class bytes sought w of_class of_bytes words more carried.asked,
-                  subst (λ k. IsCarried counts s w k) (sym here) carried,
-                ))
-                (λ (later : (v : Want) × IsLastWanted counts mid early next (carried_bytes w) v × IsCarried counts mid v from.sought). (
-                  later.0,
-                  last_more counts s mid class bytes sought w of_class of_bytes words more next carried early reread later.0 later.1,
-                  carried_moved counts s mid later.0 from.sought sought.usage sought.bounces later.2,
-                ))
-                from.is_sought);
+            is_sought = sought_more counts s mid class bytes sought w of_class of_bytes words more next carried early reread from.sought from.is_sought;
             above = omega (arith, higher, of_class, reached);
             serves = record {
               first = from.serves.first;

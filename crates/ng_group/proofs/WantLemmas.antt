@@ -10,9 +10,10 @@ use Rattle.ng_serve.specs.Reads.{AllBare, IsBareIn}
 use Rattle.ng_serve.proofs.Readings.{among_left, among_right}
 use Rattle.ng_shelf.specs.Stock.{free_of}
 use Rattle.ng_view.specs.Lists.{Among}
+use Rattle.ng_view.specs.declared.view.Group.{Group}
 use Rattle.ng_view.specs.declared.view.Run.{Run}
 use Rattle.ng_view.specs.declared.view.View.{View}
-use Rattle.ng_group.specs.Asking.{AreWanted, IsAsked, IsCarried, IsChain, IsLastWanted, Want, WantsArea, WantsRun, carried_bytes}
+use Rattle.ng_group.specs.Asking.{AreRising, AreWanted, IsAsked, IsCarried, IsChain, IsLastWanted, IsSought, Want, WantsArea, WantsRun, carried_bytes}
 use Rattle.ng_group.specs.Building.{IsAsk}
 use Rattle.ng_group.specs.Serving.{IsLeft}
 use Rattle.ng_group.specs.States.{State}
@@ -35,6 +36,10 @@ bare_right xs ys m bare = record {
   avail_read = among_right xs ys (m + 24, bare.avail) bare.avail_read;
   freed_read = among_right xs ys (m + 28, 0) bare.freed_read;
 }
+
+-- words read in four parts
+pub in_four : (ws xs ys zs : List (ℕ × ℕ)) → ws ++ ((xs ++ ys) ++ zs) ≡ (ws ++ xs) ++ (ys ++ zs)
+in_four ws xs ys zs = ap (λ (l : List (ℕ × ℕ)). ws ++ l) (append_assoc xs ys zs) ∙ sym (append_assoc ws xs (ys ++ zs))
 
 -- the words of two steps
 abbrev pub came_on : (v u w : View) → Came v u → Came u w → Came v w
@@ -91,6 +96,11 @@ no_area counts s words class bytes known many wants =
     let most : class + length wants.wants ≤ 48 = few_wants counts s class bytes wants.wants known wants.wanted.chain in
     let few : length (free_of s.stock) < length wants.wants = wants.few in
     omega (arith, most, few, many)
+
+-- ---- groups of rising classes
+pub rising_less : (less class : ℕ) (gs : List Group) → less ≤ class → AreRising class gs → AreRising less gs
+rising_less less class [] below rising = tt
+rising_less less class (g ∷ gs) below (above, rest) = (omega (arith, below, above), rest)
 
 -- ---- a call searched the ring of its class, and for a meta
 pub record Seeks {M P : Type 0} (class : ℕ) (s mid : State M P) : Type 0 where
@@ -166,6 +176,13 @@ module _ {M P : Type 0} (counts : Ask → ℕ → Type 0) (s mid : State M P) (c
       before = w ∷ last.before;
       wanted = wanted_more (last.before ++ v ∷ []) last.wanted;
     }
+
+    pub sought_more : (k : ℕ) → IsSought counts mid rest next (carried_bytes w) k → IsSought counts s words class bytes k
+    sought_more k told = inr (⊎_elim
+        (λ (here : k ≡ next). (w, last_first carried.asked, subst (λ n. IsCarried counts s w n) (sym here) carried))
+        (λ (later : (v : Want) × IsLastWanted counts mid rest next (carried_bytes w) v × IsCarried counts mid v k).
+        (later.0, last_more later.0 later.1, carried_moved counts s mid later.0 k seeks.usage seeks.bounces later.2))
+        told)
 
     unfoldable pub run_more : (pages : ℕ) → WantsRun counts mid rest next (carried_bytes w) pages → WantsRun counts s words class bytes pages
     run_more pages run = record {
