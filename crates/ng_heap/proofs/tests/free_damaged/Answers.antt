@@ -6,8 +6,8 @@ use Rattle.ng_heap.proofs.tests.free_damaged.Goals as goal
 pub refused_in-block-requires-clause-closes : goal.refused_in-block-requires-clause-closes
 refused_in-block-requires-clause-closes g c = c.spoil.ensures.closes c.given-block.new.core.seat c.given-block.ensures.closes
 
-pub end-requires : goal.end-requires
-end-requires g c =
+pub end-requires-clause-closes : goal.end-requires-clause-closes
+end-requires-clause-closes g c =
     let may = c.refused_unlocked-block.ensures.closes c.refused_in-block.new.core.seat
     (c.spoil-2.ensures.closes c.refused_in-block.new.core.seat c.refused_in-block.ensures.closes) in
-    record { closes = subst (λ (hand : Caller). MayClose c.refused_in-block.new.core.seat hand) (sym c.leave.ensures) may }
+    subst (λ (hand : Caller). MayClose c.refused_in-block.new.core.seat hand) (sym c.leave.ensures) may

@@ -31,8 +31,8 @@ frees_at_once-requires g c =
     let still = c.given-sixth.ensures.blocks third (c.frees_first.ensures.others third of_first has) in
     record { block = c.frees_first-2.ensures.others third of_second still }
 
-pub end-requires : goal.end-requires
-end-requires g c =
+pub end-requires-clause-closes : goal.end-requires-clause-closes
+end-requires-clause-closes g c =
     let left = c.leave-3.ensures ∙ c.leave-2.ensures ∙ c.leave.ensures in
     let may = c.frees_at_once.ensures.closes c.frees_first-2.new.core.seat c.frees_first-2.ensures.closes in
-    record { closes = subst (λ (hand : Caller). MayClose c.frees_first-2.new.core.seat hand) (sym left) may }
+    subst (λ (hand : Caller). MayClose c.frees_first-2.new.core.seat hand) (sym left) may
