@@ -1,7 +1,6 @@
 -- A close, from what the table tells of the last state.
 use Rattle.std.proofs.Common.{◌≡◌, ℕ, ◌+◌, List, true, false, cond, ap, ◌∙◌, subst}
 use mathlib.Core.Option.{some}
-use Rattle.std.specs.Prelude.{All}
 use lib.ListN.{get_elem?}
 use Rattle.ng_history.specs.Book.{Shown}
 use Rattle.ng_view.specs.Conditions.{IsSettled, IsBlanked}
@@ -10,8 +9,8 @@ use Rattle.ng_view.specs.Views.{desk_of}
 use Rattle.ng_view.specs.declared.view.View.{View}
 use Rattle.ng_view.specs.declared.view.Start.{Start}
 use Rattle.ng_space.specs.Callers.{Caller}
-use Rattle.ng_space.specs.Closings.{AreAll, AreFreeMetasBlank, AreRunsUsed, EndsWith, HasOwnBook, IsClosed, IsEven, views_of}
-use Rattle.ng_space.proofs.Ended.{Ends, ends, ends_settled, ends_blank}
+use Rattle.ng_space.specs.Closings.{AreAll, EndsWith, IsClosed, IsEven}
+use Rattle.ng_space.proofs.Ended.{ends, ends_settled, ends_blank}
 use Rattle.ng_space.proofs.Gathering.{Gathered, all_numbers, all_even, own_books, views, whole_views}
 use Rattle.ng_space.proofs.Hosting.{hosted, hosted-parcel}
 

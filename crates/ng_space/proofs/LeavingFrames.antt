@@ -97,19 +97,19 @@ stored_each old new slot a x has is =
     (free_frame (wrote a x has.held) has.free)
 
 -- it got a block, which is framed
-pub given_each : (old new : Caller) (slot : Token) (p n k x : ℕ) → HasSlot old slot
-    → new.view ≡ given old.view slot.meta slot.index p n 16 k x
-    → HasFramed new (record { slot = slot; at = p; len = n; align = 16 }) → AreFramed old.view → AreFramed new.view
-given_each old new slot p n k x has gives put framed =
+pub given_each : {a : ℕ} (old new : Caller) (slot : Token) (p n k x : ℕ) → HasSlot old slot
+    → new.view ≡ given old.view slot.meta slot.index p n a k x
+    → HasFramed new (record { slot = slot; at = p; len = n; align = a }) → AreFramed old.view → AreFramed new.view
+given_each {a} old new slot p n k x has gives put framed =
     let m : ℕ = slot.meta in
     let i : ℕ = slot.index in
     let mid : Caller = record old { view = stored old.view m i (p - 4) x } in
-    let t : Held → Held = with_block (Some (extent p n 16)) in
+    let t : Held → Held = with_block (Some (extent p n a)) in
     let h : Held = wrote (p - 4) x has.held in
     let there : find m i mid.view.held ≡ Some h = find_edit m i (wrote (p - 4) x) old.view.held has.held (λ y. refl) has.found in
     let held = ap (λ (u : View). u.held) gives in
     let found = ap (λ hs. find m i hs) held ∙ find_edit m i t mid.view.held h (λ y. refl) there in
-    edited_each m i t mid.view new.view h held there (known_frame new (record { slot = slot; at = p; len = n; align = 16 }) (t h) put found)
+    edited_each m i t mid.view new.view h held there (known_frame new (record { slot = slot; at = p; len = n; align = a }) (t h) put found)
     (stored_each old mid slot (p - 4) x has refl framed)
 
 -- a block was ended
@@ -151,10 +151,10 @@ leaves_stored old new slot a x has is = record {
   each = stored_each old new slot a x has is;
 }
 
-pub leaves_given : (old new : Caller) (slot : Token) (p n k x : ℕ) → HasSlot old slot
-    → new.view ≡ given old.view slot.meta slot.index p n 16 k x
-    → HasFramed new (record { slot = slot; at = p; len = n; align = 16 }) → Leaves slot old.view new.view
-leaves_given old new slot p n k x has gives put =
+pub leaves_given : {a : ℕ} (old new : Caller) (slot : Token) (p n k x : ℕ) → HasSlot old slot
+    → new.view ≡ given old.view slot.meta slot.index p n a k x
+    → HasFramed new (record { slot = slot; at = p; len = n; align = a }) → Leaves slot old.view new.view
+leaves_given {a} old new slot p n k x has gives put =
     let mid : View = stored old.view slot.meta slot.index (p - 4) x in record {
       others = others_then slot old.view mid new.view (stored_others slot old.view mid (p - 4) x refl) (booked_others slot mid new.view _ k _ gives);
       rest = rest_then old.view mid new.view (stored_rest old.view mid slot.meta slot.index (p - 4) x refl) (booked_rest mid new.view slot.meta slot.index _ k _ gives);

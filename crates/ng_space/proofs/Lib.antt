@@ -24,3 +24,4 @@ pub mod Sending
 pub mod Keeping
 pub mod Leaving
 pub mod LeavingFrames
+pub mod LeavingSlots

@@ -1,5 +1,5 @@
 -- What holds of the lock's seat holds after its steps.
-use Rattle.std.proofs.Common.{◌≡◌, ◌⊎◌, ℕ, ◌≤◌, List, [], ◌∷◌, ◌++◌, map, sym, ap, ◌∙◌, subst, ⊎_elim, inl, inr}
+use Rattle.std.proofs.Common.{◌≡◌, ◌⊎◌, ℕ, List, [], ◌∷◌, ◌++◌, map, ap, ◌∙◌, subst, ⊎_elim, inl, inr}
 use Rattle.std.specs.Prelude.{None}
 use Rattle.atomic_table.specs.declared.shared.Seat.{Seat}
 use Rattle.ng_history.specs.Book as book

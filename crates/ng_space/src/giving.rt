@@ -5,6 +5,7 @@ ghost use Rattle.ng_terms.specs.declared.entry.Entry.TheVariants.{Give, Resize, 
 ghost use Rattle.ng_view.specs.May.{May};
 ghost use Rattle.ng_view.specs.Steps.{given, regiven, stored};
 ghost use Rattle.ng_space.specs.Blocks.{BlockToken, HasBlock, HasFramed, IsReady, Kills, OfSlot, Serves, header_at};
+ghost use Rattle.ng_space.specs.Leaving.{Leaves};
 ghost use Rattle.ng_space.specs.Tokens.{HasSlot, IsToken};
 
 use crate::block::Block;
@@ -36,6 +37,7 @@ impl<N: Name> Space<N> {
         ensures has { HasFramed hand.new result }
         ensures apart { (other : BlockToken) → HasBlock hand.old other → other.at ≢ at }
         ensures view { hand.new.view ≡ given hand.old.view slot.meta slot.index at n align hand.old.number (header_at slot at n) }
+        ensures leaves { Leaves slot hand.old.view hand.new.view }
         ensures entries { hand.new.entries ≡ hand.old.entries ++ Give n align at ∷ [] }
         ensures spare { hand.new.spare + 1 ≡ hand.old.spare }
         ensures number { hand.new.number ≡ hand.old.number }
@@ -94,6 +96,7 @@ impl<N: Name> Space<N> {
         ensures slot { result ≡ block.slot }
         ensures has { HasSlot hand.new result }
         ensures view { Kills hand.old.view block hand.old.number hand.new.view }
+        ensures leaves { Leaves block.slot hand.old.view hand.new.view }
         ensures entries { hand.new.entries ≡ hand.old.entries ++ Take block.at ∷ [] }
         ensures spare { hand.new.spare + 1 ≡ hand.old.spare }
         ensures number { hand.new.number ≡ hand.old.number }

@@ -2,6 +2,7 @@
 ghost use Rattle.std.specs.Prelude.{◌≡◌, ◌≢◌, ◌*◌, ◌/◌, ◌%◌, ◌<◌, ◌≤◌, ◌+◌, ◌^◌, IfErr, IfOk, OnOk};
 ghost use Rattle.ng_meta.specs.Place.{IsMetaPlace};
 ghost use Rattle.ng_view.specs.Steps.{pushed, read, stored};
+ghost use Rattle.ng_space.specs.Leaving.{Leaves, LeavesAll};
 ghost use Rattle.ng_space.specs.Masks.{HasFree, Looks, Pops};
 ghost use Rattle.ng_space.specs.Placed.{AreOnce};
 ghost use Rattle.ng_space.specs.Tokens.{HasSlot};
@@ -24,6 +25,7 @@ impl<N: Name> Space<N> {
         requires header { addr + 4 ≡ slot.now.start → value % 256 ≡ 0 }
         ensures view { hand.new.view ≡ stored hand.old.view slot.now.meta slot.now.index addr value }
         ensures slot { HasSlot hand.new slot.now }
+        ensures leaves { Leaves slot.now hand.old.view hand.new.view }
         ensures number { hand.new.number ≡ hand.old.number }
         ensures spare { hand.new.spare ≡ hand.old.spare }
         ensures entries { hand.new.entries ≡ hand.old.entries }
@@ -44,6 +46,8 @@ impl<N: Name> Space<N> {
         ensures once { OnOk result (AreOnce hand.new.view) }
         ensures found { IfErr result (λ found. found ≢ seen) }
         ensures err { IfErr result (λ found. hand.new.view ≡ read hand.old.view (meta + 24) found) }
+        ensures leaves { IfOk result (λ slot. Leaves slot hand.old.view hand.new.view) }
+        ensures stays { IfErr result (λ found. LeavesAll hand.old.view hand.new.view) }
         ensures number { hand.new.number ≡ hand.old.number }
         ensures spare { hand.new.spare ≡ hand.old.spare }
         ensures entries { hand.new.entries ≡ hand.old.entries }
@@ -95,6 +99,8 @@ impl<N: Name> Space<N> {
         ensures found { IfErr result (λ left. left.1 ≢ seen) }
         ensures held { IfErr result (λ left. HasSlot hand.new left.0) }
         ensures err { IfErr result (λ left. hand.new.view ≡ read hand.old.view (slot.meta + 28) left.1) }
+        ensures leaves { IfOk result (λ done. Leaves slot hand.old.view hand.new.view) }
+        ensures stays { IfErr result (λ left. LeavesAll hand.old.view hand.new.view) }
         ensures number { hand.new.number ≡ hand.old.number }
         ensures spare { hand.new.spare ≡ hand.old.spare }
         ensures entries { hand.new.entries ≡ hand.old.entries }

@@ -6,6 +6,7 @@ ghost use Rattle.ng_terms.specs.declared.entry.Entry.TheVariants.{NoMemory};
 ghost use Rattle.ng_view.specs.Cuts.{Cut, Merge};
 ghost use Rattle.ng_view.specs.Lists.{find};
 ghost use Rattle.ng_view.specs.Steps.{excuse_at, pushed, spent, unexcused, with_excuse};
+ghost use Rattle.ng_space.specs.Leaving.{Leaves};
 ghost use Rattle.ng_space.specs.Masks.{Looks};
 ghost use Rattle.ng_space.specs.Passed.{EntersNoMemory, HasExcuse, HasInMotion, HasNumber, with_slot};
 ghost use Rattle.ng_space.specs.Placed.{AreOnce};
@@ -54,6 +55,7 @@ impl<N: Name> Space<N> {
         requires slot { HasSlot hand.old slot }
         ensures seat { seat.new ≡ with_slot seat.old (find slot.meta slot.index hand.old.view.held) }
         ensures view { hand.new.view ≡ pushed hand.old.view slot.meta slot.index }
+        ensures leaves { Leaves slot hand.old.view hand.new.view }
         ensures number { hand.new.number ≡ hand.old.number }
         ensures spare { hand.new.spare ≡ hand.old.spare }
         ensures entries { hand.new.entries ≡ hand.old.entries }

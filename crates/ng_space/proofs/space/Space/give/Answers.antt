@@ -5,6 +5,7 @@ use Rattle.ng_space.specs.Callers.{Caller}
 use Rattle.ng_space.proofs.Apart.{apart_from_new}
 use Rattle.ng_space.proofs.Entering.{one_number}
 use Rattle.ng_space.proofs.Granting.{given_block, gives_block}
+use Rattle.ng_space.proofs.LeavingFrames.{leaves_given}
 use Rattle.ng_space.proofs.space.Space.give.Goals as goal
 
 pub header_told-requires-clause-may : goal.header_told-requires-clause-may
@@ -24,3 +25,9 @@ returns-clause-has g c =
 pub returns-clause-apart : goal.returns-clause-apart
 returns-clause-apart g c =
     apart_from_new c.args.hand.now _ c.args.at (ap (λ (hand : Caller). hand.view) c.hand.view_is) c.header_told.ensures.told.1
+
+pub returns-clause-leaves : goal.returns-clause-leaves
+returns-clause-leaves g c =
+    leaves_given c.args.hand.now _ c.args.slot c.args.at c.args.n c.number-number.result c.header-header.result c.requires.slot
+    (c.header_told.ensures.told.0 ∙ ap (λ (hand : Caller). given hand.view c.args.slot.meta c.args.slot.index c.args.at c.args.n c.args.align c.number-number.result c.header-header.result) c.hand.view_is)
+    (returns-clause-has g c)

@@ -5,7 +5,6 @@ use Rattle.ng_space.specs.Blanks.{rooms_of, fresh_books}
 use Rattle.ng_space.specs.Callers.{Caller, fresh_callers, opened}
 use Rattle.ng_view.specs.Lists.{Among}
 use Rattle.ng_view.specs.Steps.{opener}
-use Rattle.ng_view.specs.declared.view.Held.{Held}
 use Rattle.ng_view.specs.declared.view.Start.{Start}
 use Rattle.ng_view.specs.declared.view.View.{View}
 use Rattle.ng_space.proofs.Opening.{Opening, next_book, opens_first, opens_next_hand, opens_last, length-snoc}
@@ -77,7 +76,7 @@ pub invariant_of-lock : goal.invariant_of-lock
 invariant_of-lock g c =
     let at = c.loop-book in let blank = c.blank.invariant in
     let lock = the_lock g.N.Name.facts.start _ _ _ at.seat.me.0 _ _ at.invariant.0 (nothing_left _ (sym at.invariant.3 ∙ c.in-None.ensures.steps.0))
-            (rooms c.blank.inside.books.items _ _ c.into_iter-book-iterator.ensures.into_iter_gives.0 (ap (λ b. b.rooms) c.blank.view_is)) c.requires.hands in record {
+    (rooms c.blank.inside.books.items _ _ c.into_iter-book-iterator.ensures.into_iter_gives.0 (ap (λ b. b.rooms) c.blank.view_is)) c.requires.hands in record {
       fits = at.invariant.1;
       no_slots = at.invariant.2;
       leads = ap (λ (v : View). v.leads) lock;
@@ -96,7 +95,7 @@ pub returns-clause-lock : goal.returns-clause-lock
 returns-clause-lock g c =
     let at = c.loop-book in
     the_lock g.N.Name.facts.start _ _ _ at.seat.me.0 _ _ at.invariant.0 (nothing_left _ (sym at.invariant.3 ∙ c.in-None.ensures.steps.0))
-        (rooms c.blank.inside.books.items _ _ c.into_iter-book-iterator.ensures.into_iter_gives.0 (ap (λ b. b.rooms) c.blank.view_is)) c.requires.hands
+    (rooms c.blank.inside.books.items _ _ c.into_iter-book-iterator.ensures.into_iter_gives.0 (ap (λ b. b.rooms) c.blank.view_is)) c.requires.hands
 
 pub returns-clause-hands : goal.returns-clause-hands
 returns-clause-hands g c =

@@ -1,11 +1,13 @@
-use Rattle.std.proofs.Common.{ap}
+use Rattle.std.proofs.Common.{ap, ◌∙◌}
 use Rattle.ng_rule.proofs.hand.Passing.{merge_hand}
 use Rattle.ng_view.specs.Lists.{find}
+use Rattle.ng_view.specs.Steps.{pushed}
 use Rattle.ng_view.specs.declared.view.Desk.{Desk}
 use Rattle.ng_space.specs.Callers.{Caller}
 use Rattle.ng_space.specs.Tokens.{Token}
 use Rattle.ng_space.proofs.Locked.{lock_stays}
 use Rattle.ng_space.proofs.Passed.{one_book, cut_to_seat, slot_like, still-slot, token_free}
+use Rattle.ng_space.proofs.LeavingSlots.{pushed_leaves}
 use Rattle.ng_space.proofs.space.Space.slot_to_seat.Goals as goal
 
 pub pass_slot-requires-clause-merge : goal.pass_slot-requires-clause-merge
@@ -29,3 +31,9 @@ invariant_of-seat g c =
       next = ap (λ (d : Desk). d.next) like.2;
       still = still-slot c.seat.inside.seat.me.0 c.hand.inside.seat.me.0 c.slot.inside.meta c.slot.inside.index (token_free _ _ _ _ _ c.requires.slot (ap (λ (hand : Caller). hand.view) c.hand.view_is) (ap (λ (slot : Token). slot.meta) c.slot.view_is) (ap (λ (slot : Token). slot.index) c.slot.view_is));
     })
+
+pub returns-clause-leaves : goal.returns-clause-leaves
+returns-clause-leaves g c =
+    let hand = c.hand.view_is in let slot = c.slot.view_is in
+    pushed_leaves c.args.slot c.args.hand.now.view c.pass_slot.new.own.me.0
+    (ap (λ me. me.0) c.pass_slot.ensures.own ∙ (λ t. pushed (hand t).view (slot t).meta (slot t).index))

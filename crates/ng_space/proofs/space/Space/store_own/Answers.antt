@@ -4,6 +4,7 @@ use Rattle.ng_space.specs.Tokens.{Token}
 use Rattle.ng_view.specs.Steps.{stored}
 use Rattle.ng_space.proofs.Granting.{stored_slot}
 use Rattle.ng_space.proofs.Holding.{stores_in_slot}
+use Rattle.ng_space.proofs.LeavingFrames.{leaves_stored}
 use Rattle.ng_space.proofs.space.Space.store_own.Goals as goal
 
 pub store_told-requires-clause-may : goal.store_told-requires-clause-may
@@ -16,3 +17,9 @@ pub returns-clause-slot : goal.returns-clause-slot
 returns-clause-slot g c =
     let hand = c.hand.view_is in let slot = c.slot.view_is in
     stored_slot c.args.hand.now _ c.args.slot.now c.args.addr c.from-value.result c.requires.slot (ap (λ (hand : Caller). hand.number) hand) (c.store_told.ensures.told ∙ (λ t. stored (hand t).view (slot t).meta (slot t).index c.args.addr c.from-value.result))
+
+pub returns-clause-leaves : goal.returns-clause-leaves
+returns-clause-leaves g c =
+    let hand = c.hand.view_is in let slot = c.slot.view_is in
+    leaves_stored c.args.hand.now (record c.args.hand.now { view = c.store_told.new.seat.me.0 }) c.args.slot.now c.args.addr c.from-value.result c.requires.slot
+    (c.store_told.ensures.told ∙ (λ t. stored (hand t).view (slot t).meta (slot t).index c.args.addr c.from-value.result))
