@@ -59,7 +59,7 @@ past [] k d le = refl
 past (x ∷ xs) zero d le = absurd (omega arith)
 past (x ∷ xs) (suc k) d le = past xs k d (omega arith)
 
-last_of : {A : Type 0} (xs : List A) (a d : A) → get_or (xs ++ a ∷ []) (length xs) d ≡ a
+pub last_of : {A : Type 0} (xs : List A) (a d : A) → get_or (xs ++ a ∷ []) (length xs) d ≡ a
 last_of [] a d = refl
 last_of (x ∷ xs) a d = last_of xs a d
 
