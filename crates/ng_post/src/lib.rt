@@ -1,0 +1,13 @@
+//! Mailboxes between threads: what a log posts under a number, the number's receiver collects. Each log
+//! has a box, out of which it takes its mail, and a door to all boxes.
+#![tactic(auto)]
+
+mod boxes;
+mod collecting;
+mod mail;
+mod posting;
+mod rule;
+mod view;
+
+pub use boxes::{Boxes, Door};
+pub use mail::Mail;
