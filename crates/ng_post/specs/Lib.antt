@@ -1,3 +1,5 @@
 pub mod Letters
 pub mod Box
 pub mod Doors
+pub mod Opened
+pub mod Ends

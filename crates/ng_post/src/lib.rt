@@ -4,10 +4,12 @@
 
 mod boxes;
 mod collecting;
+mod ending;
 mod mail;
 mod posting;
 mod rule;
 mod view;
 
 pub use boxes::{Boxes, Door};
+pub use ending::finish;
 pub use mail::Mail;
