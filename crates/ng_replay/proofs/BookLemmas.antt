@@ -23,7 +23,7 @@ use Rattle.ng_replay.specs.Serial.{done_in}
 use Rattle.ng_replay.specs.Serving.{IsCapOf, plain}
 
 -- the ops beside the replies, one reply on
-zip-push : {X Y : Type 0} → (xs : List X) (ys : List Y) (d : X) (y : Y) → length ys < length xs
+pub zip-push : {X Y : Type 0} → (xs : List X) (ys : List Y) (d : X) (y : Y) → length ys < length xs
     → zip xs (ys ++ y ∷ []) ≡ zip xs ys ++ (get_or xs (length ys) d, y) ∷ []
 zip-push [] ys d y short = absurd (omega arith)
 zip-push (x ∷ []) [] d y short = refl
@@ -31,7 +31,7 @@ zip-push (x ∷ (other ∷ xs)) [] d y short = refl
 zip-push (x ∷ xs) (b ∷ ys) d y short = ap (λ rest. (x, b) ∷ rest) (zip-push xs ys d y (omega arith))
 
 -- the calls of a log, one reply on
-calls_of_log-push : (ops : List Op) (row : List Reply) (reply : Reply) → length row < length ops
+pub calls_of_log-push : (ops : List Op) (row : List Reply) (reply : Reply) → length row < length ops
     → calls_of_log plain ops (row ++ reply ∷ []) ≡ calls_of_log plain ops row ++ calls_of plain (op_of_log ops (length row)) reply
 calls_of_log-push ops row reply short =
     let calls : (Op × Reply) → List Entry = λ done. calls_of plain done.0 done.1 in

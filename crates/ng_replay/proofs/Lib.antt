@@ -12,3 +12,5 @@ pub mod StepLemmas
 pub mod StartLemmas
 pub mod MoveLemmas
 pub mod ClosingLemmas
+pub mod FlatLemmas
+pub mod WorkLemmas

@@ -1,12 +1,19 @@
 //! Replay: the ops of a plan are done on a heap, and each gets its reply.
 #![tactic(auto)]
 
+mod beside;
+mod crew;
+mod gate;
 mod make;
 mod op;
+mod passing;
 mod room;
 mod source;
 mod turns;
+mod worker;
 
+pub use crew::Crew;
+pub use gate::{Gate, Open};
 pub use ng_terms::{Made, Mode, Reply};
 pub use op::do_op;
 pub use room::Room;

@@ -74,7 +74,7 @@ pub fn do_op<N: Name, M: Mapper, P: Rules>(
 }
 
 /// Leaves a source that the op doesn't take, whose block stays live in the hand.
-fn leave<N: Name>(hand: &mut Hand<N>, source: Option<Block<N>>)
+pub(crate) fn leave<N: Name>(hand: &mut Hand<N>, source: Option<Block<N>>)
     ensures { hand.new ≡ hand.old }
 {
     if let Some(block) = source {
@@ -107,7 +107,7 @@ fn make_anew<N: Name, M: Mapper, P: Rules>(
 }
 
 /// The reply to a make with this outcome.
-fn reply_to_make(made: Made) -> Reply
+pub(crate) fn reply_to_make(made: Made) -> Reply
     ensures { result ≡ reply_of made }
 {
     match made {

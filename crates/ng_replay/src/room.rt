@@ -54,7 +54,7 @@ fn room_for<N: Name>(alloc: Global, plan: &Plan) -> Result<Room<N>, AllocError>
 }
 
 /// An empty row of replies for each log.
-fn rows_for(alloc: Global, logs: &[Items<Op>]) -> Result<Vec<Vec<Reply>>, AllocError>
+pub(crate) fn rows_for(alloc: Global, logs: &[Items<Op>]) -> Result<Vec<Vec<Reply>>, AllocError>
     ensures logs { IfOk result (λ rows. length rows.items ≡ length logs.now) }
     ensures empty { IfOk result (λ rows. All (λ row. row.items ≡ []) rows.items) }
     ensures room { IfOk result (λ rows. HaveRoom logs.now rows.items) }
@@ -68,7 +68,7 @@ fn rows_for(alloc: Global, logs: &[Items<Op>]) -> Result<Vec<Vec<Reply>>, AllocE
 }
 
 /// An empty row of blocks for each log.
-fn blocks_for<N: Name>(
+pub(crate) fn blocks_for<N: Name>(
     alloc: Global,
     logs: &[Items<Op>],
 ) -> Result<Vec<Vec<Option<Block<N>>>>, AllocError>
@@ -90,7 +90,7 @@ fn blocks_for<N: Name>(
 }
 
 /// Ends rows without blocks.
-fn end_rows<N: Name>(mut rows: Vec<Vec<Option<Block<N>>>>)
+pub(crate) fn end_rows<N: Name>(mut rows: Vec<Vec<Option<Block<N>>>>)
     requires empty { All (λ row. row.items ≡ []) rows.items }
 {
     while let Some(row) = rows.pop() {

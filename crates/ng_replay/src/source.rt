@@ -79,7 +79,7 @@ pub fn hand_off<N: Name>(
 }
 
 /// Where an op's block comes from.
-fn origin(op: &Op) -> Origin
+pub(crate) fn origin(op: &Op) -> Origin
     ensures { result ≡ origin_of op.now }
 {
     match *op {
@@ -100,7 +100,7 @@ fn origin(op: &Op) -> Origin
 }
 
 /// The number under which an op hands its block off.
-fn handed_number(op: &Op) -> Option<u64>
+pub(crate) fn handed_number(op: &Op) -> Option<u64>
     ensures { result ≡ handed_as op.now }
 {
     match *op {

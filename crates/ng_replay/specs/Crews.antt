@@ -1,0 +1,62 @@
+-- The workers of a plan's logs, one for each.
+use Rattle.std.specs.Prelude.{◌≡◌, ℕ, ◌+◌, ◌*◌, ◌<◌, ◌≤◌, List, [], All, length, map, slice_index_or, vec_capacity}
+use Rattle.ng_post.specs.declared.boxes.Boxes.{Boxes}
+use Rattle.ng_post.specs.declared.boxes.Door.{Door}
+use Rattle.ng_post.specs.Doors.{IsDoorOf}
+use Rattle.ng_space.specs.Callers.{Caller, fresh_caller}
+use Rattle.ng_terms.specs.declared.plan.Op.{Op}
+use Rattle.ng_terms.specs.declared.plan.Plan.{Plan}
+use Rattle.ng_replay.specs.Works.{AreDone, MayDo}
+use Rattle.ng_replay.specs.declared.crew.Crew.{Crew}
+use Rattle.ng_replay.specs.declared.worker.Worker.{Worker}
+
+-- the hands of a crew's workers, and their doors
+abbrev pub hands_of : {N : Type 0} → Crew N → List Caller
+hands_of crew = map (λ worker. worker.hand) crew.workers.items
+
+abbrev pub doors_of : {N : Type 0} → Crew N → List (Door N)
+doors_of crew = map (λ worker. worker.door) crew.workers.items
+
+-- the worker has no block and no reply yet, and room for those of the ops
+pub record HasRoomToWork {N : Type 0} (ops : List Op) (worker : Worker N) : Type 0 where
+  pub no_blocks : worker.row.items ≡ []
+  pub no_replies : worker.replies.items ≡ []
+  pub blocks : length ops ≤ vec_capacity worker.row
+  pub replies : length ops ≤ vec_capacity worker.replies
+
+-- a worker for each log, and room for what the workers leave: their hands, their doors and their replies
+pub record IsCrewFor {N : Type 0} (crew : Crew N) (plan : Plan) : Type 0 where
+  pub count : length crew.workers.items ≡ length plan.logs
+  pub each : (log : ℕ) (w : Worker N) → log < length plan.logs
+      → HasRoomToWork (slice_index_or plan.logs log []) (slice_index_or crew.workers.items log w)
+  pub no_hands : crew.hands.items ≡ []
+  pub no_doors : crew.doors.items ≡ []
+  pub no_replies : crew.replies.items ≡ []
+  pub hands : length plan.logs ≤ vec_capacity crew.hands
+  pub doors : length plan.logs ≤ vec_capacity crew.doors
+  pub replies : length plan.logs ≤ vec_capacity crew.replies
+
+-- a worker may begin with the ops of its log: nothing was done by its hand and its door, and there is room for all
+pub record IsReady {N : Type 0} (boxes : Boxes N) (cap : ℕ) (ops : List Op) (log : ℕ) (worker : Worker N) : Type 0 where
+  pub may : MayDo cap boxes.receivers.items ops
+  pub hand : worker.hand ≡ fresh_caller (log + 1) (2 * length ops)
+  pub door : IsDoorOf boxes worker.door
+  pub log_is : worker.door.log ≡ log
+  pub none_sent : worker.door.sent.items ≡ []
+  pub none_got : worker.door.got.items ≡ []
+  pub room_to_post : length ops ≤ vec_capacity worker.door.sent
+  pub room_to_collect : length ops ≤ vec_capacity worker.door.got
+  pub room : HasRoomToWork ops worker
+
+-- a worker has done the ops of its log
+abbrev pub HasDone : {N : Type 0} → Boxes N → List Op → ℕ → Worker N → Type 0
+HasDone boxes ops log worker = AreDone boxes ops log worker.hand worker.door worker.replies.items
+
+-- all workers of a plan may begin, and all have done their ops
+pub record AreReady {N : Type 0} (boxes : Boxes N) (cap : ℕ) (plan : Plan) (workers : List (Worker N)) : Type 0 where
+  pub count : length workers ≡ length plan.logs
+  pub each : (log : ℕ) (w : Worker N) → log < length plan.logs → IsReady boxes cap (slice_index_or plan.logs log []) log (slice_index_or workers log w)
+
+pub record HaveDone {N : Type 0} (boxes : Boxes N) (plan : Plan) (workers : List (Worker N)) : Type 0 where
+  pub count : length workers ≡ length plan.logs
+  pub each : (log : ℕ) (w : Worker N) → log < length plan.logs → HasDone boxes (slice_index_or plan.logs log []) log (slice_index_or workers log w)
