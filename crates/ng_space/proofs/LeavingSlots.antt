@@ -9,7 +9,7 @@ use Rattle.ng_view.specs.declared.view.Group.{Group}
 use Rattle.ng_view.specs.declared.view.Held.{Held}
 use Rattle.ng_view.specs.declared.view.View.{View}
 use Rattle.ng_space.specs.Leaving.{AreFramed, HasFrame, IsOther, KeepsOthers, KeepsRest, Leaves, LeavesAll}
-use Rattle.ng_space.specs.Masks.{Looks, Pops}
+use Rattle.ng_space.specs.Masks.{Looks}
 use Rattle.ng_space.specs.Tokens.{Token}
 use Rattle.ng_space.proofs.Leaving.{learns_itself, not_at}
 use Rattle.ng_space.proofs.LeavingFrames.{all_leaves, free_frame, leaves_all_then, leaves_held, leaves_loaded, leaves_then}
@@ -123,7 +123,3 @@ leaves_came slot v u w g i a x meta of_meta same is looks =
     let p : View = popped v g slot.index in
     leaves_then slot v p w (leaves_popped slot v p g of_meta refl)
     (all_leaves slot p w (leaves_all_then p u w (leaves_read p u a x (is ∙ ap (λ j. read (popped v g j) a x) same)) (leaves_looked u meta w looks)))
-
-pub leaves_pops : (slot : Token) (v : View) (meta seen : ℕ) (w : View) → slot.meta ≡ meta → Pops v meta seen slot.index w → Leaves slot v w
-leaves_pops slot v meta seen w is pops =
-    leaves_came slot v (read (popped v pops.group slot.index) (meta + 24) seen) w pops.group slot.index (meta + 24) seen meta (pops.of_meta ∙ sym is) refl refl pops.looks
