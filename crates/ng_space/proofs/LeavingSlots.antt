@@ -4,7 +4,7 @@ use Rattle.std.proofs.lemmas.List.{append-nil}
 use Rattle.std.specs.Prelude.{Some, None}
 use Rattle.ng_rule.proofs.geometry.Lists.{among_without, is_at-here}
 use Rattle.ng_view.specs.Lists.{Among, find, is_at, without}
-use Rattle.ng_view.specs.Steps.{in_motion, loaded, popped, pushed, read}
+use Rattle.ng_view.specs.Steps.{in_motion, loaded, popped, pushed, read, with_held}
 use Rattle.ng_view.specs.declared.view.Group.{Group}
 use Rattle.ng_view.specs.declared.view.Held.{Held}
 use Rattle.ng_view.specs.declared.view.View.{View}
@@ -94,6 +94,26 @@ module _ (slot : Token) (v w : View) (h : Held) (came : w.held ≡ h ∷ v.held)
       by_place : Among k (h ∷ v.held) → HasFrame k
       by_place (inl e) = subst HasFrame (sym e) (free_frame h free)
       by_place (inr was) = framed k was
+
+-- a slot out of another seat, whose meta was then looked at
+pub leaves_passed : (slot : Token) (v u w : View) (h : Held) (meta : ℕ) → u ≡ with_held v h → is_at slot.meta slot.index h.place ≡ true → h.block ≡ None → Looks u meta w → Leaves slot v w
+leaves_passed slot v u w h meta is here free looks = leaves_then slot v u w came (all_leaves slot u w (leaves_looked u meta w looks))
+  where
+    held : u.held ≡ h ∷ v.held
+    held = ap (λ (x : View). x.held) is
+
+    came : Leaves slot v u
+    came = record {
+      others = came_others slot v u h held here;
+      rest = record {
+        excuses = ap (λ (x : View). x.excuses) is;
+        sent = ap (λ (x : View). x.sent) is;
+        taken = ap (λ (x : View). x.taken) is;
+        more = [];
+        readings = ap (λ (x : View). x.readings) is ∙ sym (append-nil v.readings);
+      };
+      each = came_each slot v u h held here free;
+    }
 
 pub leaves_popped : (slot : Token) (v w : View) (g : Group) → g.meta ≡ slot.meta → w ≡ popped v g slot.index → Leaves slot v w
 leaves_popped slot v w g of_meta is = record {
