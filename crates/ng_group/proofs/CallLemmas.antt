@@ -11,7 +11,8 @@ use Rattle.ng_mapper.specs.Mapping.{NotesNone, Span}
 use Rattle.ng_mapper.specs.Runs as mapper
 use Rattle.ng_mapper.specs.declared.refusals.Refusals.{Refusals}
 use Rattle.ng_meta.specs.Place.{IsMetaPlace}
-use Rattle.ng_space.specs.Passed.{HasInMotion, HasNumber}
+use Rattle.ng_space.specs.Callers.{Caller}
+use Rattle.ng_space.specs.Passed.{ExcuseToken, HasExcuse, HasInMotion, HasNumber}
 use Rattle.ng_view.specs.Lists.{find, is_at, without}
 use Rattle.ng_view.specs.Steps.{excuse_at, in_motion, pushed, unexcused, without_one}
 use Rattle.ng_view.specs.declared.view.Excuse.{Excuse}
@@ -24,6 +25,7 @@ use Rattle.ng_view.specs.declared.view.View.{View}
 use Rattle.ng_ledger.specs.Standing.{InHand, KeepsHand, Ledger}
 use Rattle.ng_ledger.proofs.HandLemmas.{keeps_hand-none}
 use Rattle.ng_group.specs.declared.heap_core.Core.TheInside.{Inside}
+use Rattle.ng_group.specs.Hands.{GainsExcuse, GetsExcuse}
 use Rattle.ng_group.specs.Opening.{IsMostBounded}
 use Rattle.ng_group.specs.Serving.{HasServed}
 use Rattle.ng_group.specs.States.{IsResting, IsWorking, Resting, State, Working, ledger_of}
@@ -216,6 +218,21 @@ module _ {M P : Type 0} (start : Start) (span : M → Span) (runs : M → List m
       (ap (λ (x : View). x.held) view ∙ there.idle)
       (ap (λ (x : View). x.excuses) view ∙ refused_gone number before.seat s.seat (refused before.mapper) (refused s.mapper) there.is there.rest.answered)
       (keeps_hand-none (ledger_of before) (ledger_of s) there.hand there.rest.at_rest)
+
+-- so the hand gets it, as the last one
+pub gets_excuse : {M P : Type 0} (refused : M → Refusals) (pages : ℕ) {w was s now : State M P} → w ≡ was → s ≡ now → (hand new : Caller) (number : ℕ)
+    (excuse : ExcuseToken) → excuse.number ≡ number → HasExcuse new excuse → GainsExcuse excuse.number hand.view new.view
+    → IsRefused number w.seat now.seat (refused w.mapper) (refused now.mapper) → (refused now.mapper).most ≤ max (refused w.mapper).most pages
+    → GetsExcuse pages hand new (refused was.mapper) (refused s.mapper) excuse
+gets_excuse {M = M} {P = P} refused pages {w = w} {s = s} {now = now} before after hand new number excuse of_number has gains is most =
+    subst (λ (x : State M P). GetsExcuse pages hand new (refused x.mapper) (refused s.mapper) excuse) before
+    (subst (λ (x : State M P). GetsExcuse pages hand new (refused w.mapper) (refused x.mapper) excuse) (sym after) (record {
+      has = has;
+      gains = gains;
+      number_is = of_number ∙ is.number_is;
+      rose = is.rose;
+      most = most;
+    }))
 
 -- the first meta of a ring has its place
 pub first_place : {M P : Type 0} (start : Start) (span : M → Span) (runs : M → List mapper.Run) (refused : M → Refusals) {s now : State M P}

@@ -3,10 +3,10 @@ use Rattle.std.proofs.Common.{◌≡◌, ◌≢◌, ◌⊎◌, ℕ, ◌≤◌, c
 use Rattle.std.specs.Prelude.{Some}
 use Rattle.std.proofs.lemmas.Bool.{cases_eq}
 use Rattle.ng_rule.proofs.geometry.Lists.{find_among, is_at-here, is_at-true, total_by-among}
-use Rattle.ng_space.specs.Blocks.{BlockToken, HasBlock}
 use Rattle.ng_space.specs.Callers.{Caller}
+use Rattle.ng_space.specs.Leaving.{KeepsSlots, Learns}
 use Rattle.ng_space.specs.Placed.{AreOnce}
-use Rattle.ng_space.specs.Tokens.{HasSlot, LiesAt, Token}
+use Rattle.ng_space.specs.Tokens.{HasSlot, Token}
 use Rattle.ng_view.specs.Lists.{Among, count_of, find, is_at, total_by}
 use Rattle.ng_view.specs.Steps.{in_motion}
 use Rattle.ng_view.specs.declared.view.Group.{Group}
@@ -107,55 +107,21 @@ gained_finds meta index m i v w h gains once found =
     ap (λ (b : Bool). cond b (Some (in_motion gains.group index)) (find m i v.held)) other ∙ found in
     same_find m i (in_motion gains.group index ∷ v.held) w.held h gains.learns.slots later
 
--- ---- what a hand had, it has
-abbrev AreFound : Caller → Caller → Token → Type 0
-AreFound hand new token = (h : Held) → find token.meta token.index hand.view.held ≡ Some h → Finds token.meta token.index new.view.held h
+-- ---- each slot that a hand had stays
+learns_same : (h k : Held) → IsSameSlot h k → Learns h k
+learns_same h k same = record { place = same.place; block = same.block; cells = λ a x always. same.known a x }
 
-keeps_slot : (hand new : Caller) (token : Token) → new.number ≡ hand.number → AreFound hand new token → HasSlot hand token → HasSlot new token
-keeps_slot hand new token number found has =
-    let r = found has.held has.found in
-    record {
-      own = has.own ∙ sym number;
-      held = r.slot;
-      found = r.found;
-      free = r.same.block ∙ has.free;
-      place = subst (λ (p : Place). LiesAt p token) (sym r.same.place) has.place;
-    }
+stays_found : (m i : ℕ) (v w : View) (h : Held) → Finds m i w.held h → (k : Held) × (find m i w.held ≡ Some k) × Learns h k
+stays_found m i v w h r = (r.slot, r.found, learns_same h r.slot r.same)
 
-keeps_block : (hand new : Caller) (block : BlockToken) → new.number ≡ hand.number → AreFound hand new block.slot → HasBlock hand block
-    → HasBlock new block
-keeps_block hand new block number found has =
-    let r = found has.held has.found in
-    record {
-      own = has.own ∙ sym number;
-      held = r.slot;
-      found = r.found;
-      live = r.same.block ∙ has.live;
-      place = subst (λ (p : Place). LiesAt p block.slot) (sym r.same.place) has.place;
-    }
-
--- where a slot came, all that it had is apart from the slot, and stays
+-- where a slot came, all that the hand had is apart from the slot, and stays
 pub apart_of : (hand new : Caller) (slot : Token) → GainsSlot slot.meta slot.index hand.view new.view → AreOnce new.view
     → (token : Token) → HasSlot hand token → IsApart token slot
 apart_of hand new slot gains once token has = gained_apart slot.meta slot.index token.meta token.index hand.view new.view has.held gains once has.found
 
-pub gained_slots : (hand new : Caller) (slot : Token) → new.number ≡ hand.number → GainsSlot slot.meta slot.index hand.view new.view → AreOnce new.view
-    → (token : Token) → HasSlot hand token → HasSlot new token
-gained_slots hand new slot number gains once token =
-    keeps_slot hand new token number (λ h found. gained_finds slot.meta slot.index token.meta token.index hand.view new.view h gains once found)
-
-pub gained_blocks : (hand new : Caller) (slot : Token) → new.number ≡ hand.number → GainsSlot slot.meta slot.index hand.view new.view → AreOnce new.view
-    → (block : BlockToken) → HasBlock hand block → HasBlock new block
-gained_blocks hand new slot number gains once block =
-    keeps_block hand new block number (λ h found. gained_finds slot.meta slot.index block.slot.meta block.slot.index hand.view new.view h gains once found)
+pub gained_keeps : (meta index : ℕ) (v w : View) → GainsSlot meta index v w → AreOnce w → KeepsSlots v w
+gained_keeps meta index v w gains once m i h found = stays_found m i v w h (gained_finds meta index m i v w h gains once found)
 
 -- where an excuse came
-pub excused_slots : (hand new : Caller) (excuse : ℕ) → new.number ≡ hand.number → GainsExcuse excuse hand.view new.view
-    → (token : Token) → HasSlot hand token → HasSlot new token
-excused_slots hand new excuse number gains token =
-    keeps_slot hand new token number (λ h found. same_find token.meta token.index hand.view.held new.view.held h gains.learns.slots found)
-
-pub excused_blocks : (hand new : Caller) (excuse : ℕ) → new.number ≡ hand.number → GainsExcuse excuse hand.view new.view
-    → (block : BlockToken) → HasBlock hand block → HasBlock new block
-excused_blocks hand new excuse number gains block =
-    keeps_block hand new block number (λ h found. same_find block.slot.meta block.slot.index hand.view.held new.view.held h gains.learns.slots found)
+pub excused_keeps : (number : ℕ) (v w : View) → GainsExcuse number v w → KeepsSlots v w
+excused_keeps number v w gains m i h found = stays_found m i v w h (same_find m i v.held w.held h gains.learns.slots found)

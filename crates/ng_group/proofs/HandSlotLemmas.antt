@@ -1,16 +1,18 @@
 -- What a hand comes to have: words that it reads, a slot, and an excuse.
-use Rattle.std.proofs.Common.{◌≡◌, ◌⊎◌, ℕ, zero, suc, ◌+◌, ◌*◌, ◌<◌, ◌≤◌, cond, Bool, true, false, List, [], ◌∷◌, map, refl, sym, ap, ◌∙◌, subst, inl, inr}
-use Rattle.std.specs.Prelude.{Option, Some}
+use Rattle.std.proofs.Common.{◌≡◌, ◌⊎◌, ℕ, zero, suc, ◌+◌, ◌*◌, ◌<◌, ◌≤◌, cond, Bool, true, false, List, [], ◌∷◌, map, Ok, Err, refl, sym, ap, ◌∙◌, subst, inl, inr}
+use Rattle.std.specs.Prelude.{IfErr, Option, Result, Some}
 use Rattle.std.proofs.lemmas.Option.{same_Some}
 use Rattle.ng_rule.proofs.geometry.Lists.{is_at-here}
 use Rattle.ng_view.specs.Notes.{excuse_of_call}
 use Rattle.ng_class.specs.Class.{units_of}
+use Rattle.ng_mapper.specs.declared.refusals.Refusals.{Refusals}
 use Rattle.ng_mask.specs.Pops.{HasPopCause, LastLoads, Loses, LosesOnce, Wins}
 use Rattle.ng_mask.specs.declared.outcome.Pop.{Pop}
 use Rattle.ng_mask.specs.declared.outcome.Pop.TheVariants.{Won, Bare, Other, Lost}
 use Rattle.ng_space.specs.Callers.{Caller}
+use Rattle.ng_space.specs.Leaving.{KeepsBook}
 use Rattle.ng_space.specs.Masks.{Looks}
-use Rattle.ng_space.specs.Passed.{with_slot}
+use Rattle.ng_space.specs.Passed.{ExcuseToken, HasExcuse, with_slot}
 use Rattle.ng_space.specs.Tokens.{HasSlot, Token}
 use Rattle.ng_view.specs.Blocks.{Knows}
 use Rattle.ng_view.specs.Lists.{Among, find, is_at}
@@ -21,7 +23,7 @@ use Rattle.ng_view.specs.declared.view.Group.{Group}
 use Rattle.ng_view.specs.declared.view.Held.{Held}
 use Rattle.ng_view.specs.declared.view.Place.{Place}
 use Rattle.ng_view.specs.declared.view.View.{View}
-use Rattle.ng_group.specs.Hands.{AreSameSlots, GainsExcuse, GainsSlot, IsSameSlot, IsSlotFor, Learns}
+use Rattle.ng_group.specs.Hands.{AreSameSlots, GainsExcuse, GainsSlot, GetsExcuse, IsSameSlot, IsSlotFor, Learns}
 use Rattle.ng_group.specs.Serving.{HasServed}
 use Rattle.ng_group.proofs.TakeLemmas.{plain_room}
 use Rattle.ng_group.proofs.WorkingLemmas.{came_same, came_then}
@@ -149,18 +151,29 @@ missed pop (inr (inr lost)) = subst IsMissed (sym lost) tt
 -- a hand tried to pop, and got no slot: words were read
 pub record Tried (hand now : Caller) : Type 0 where
   pub learns : Learns hand.view now.view
-  pub number : now.number ≡ hand.number
+  pub book : KeepsBook hand now
 
 pub tried_not : (hand now : Caller) → now ≡ hand → Tried hand now
-tried_not hand now same = subst (Tried hand) (sym same) (record { learns = learns_same hand.view; number = refl })
+tried_not hand now same = subst (Tried hand) (sym same) (record {
+  learns = learns_same hand.view;
+  book = record { number = refl; spare = refl; entries = refl };
+})
 
 pub tried_pop : {X : Type 0} (meta class : ℕ) (hand after now : Caller) (pop : Pop X)
     → (pop ≡ Bare) ⊎ ((tag : ℕ) × (pop ≡ Other tag)) ⊎ (pop ≡ Lost)
-    → HasPopCause hand.view meta class pop after.view → after.number ≡ hand.number → now ≡ after → Tried hand now
-tried_pop meta class hand after now pop none cause number same = subst (Tried hand) (sym same) (record {
+    → HasPopCause hand.view meta class pop after.view → KeepsBook hand after → now ≡ after → Tried hand now
+tried_pop meta class hand after now pop none cause book same = subst (Tried hand) (sym same) (record {
   learns = learns_cause meta class hand.view after.view pop (missed pop none) cause;
-  number = number;
+  book = book;
 })
+
+-- which it still has after a call that keeps it
+pub tried_book : (hand now new : Caller) → Tried hand now → KeepsBook now new → KeepsBook hand new
+tried_book hand now new tried book = record {
+  number = book.number ∙ tried.book.number;
+  spare = book.spare ∙ tried.book.spare;
+  entries = book.entries ∙ tried.book.entries;
+}
 
 -- ---- a slot came
 -- the slot that came is found, wherever more was learnt since
@@ -237,3 +250,14 @@ excused number told v u w found same learns is view =
           (sym (view ∙ ap (with_excuse u) is))
           (learns_excused v u (excuse_of_call number) learns);
     })
+
+-- which a call's answer tells
+module _ (pages : ℕ) (hand new : Caller) (was now : Refusals) where
+  pub answered_excuse : (answer : Result Token ExcuseToken) → IfErr answer (GetsExcuse pages hand new was now) → IfErr answer (HasExcuse new)
+  answered_excuse (Ok slot) gets = tt
+  answered_excuse (Err excuse) gets = gets.has
+
+  pub answered_excused : (answer : Result Token ExcuseToken) → IfErr answer (GetsExcuse pages hand new was now)
+      → IfErr answer (λ excuse. GainsExcuse excuse.number hand.view new.view)
+  answered_excused (Ok slot) gets = tt
+  answered_excused (Err excuse) gets = gets.gains

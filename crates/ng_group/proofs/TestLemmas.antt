@@ -12,7 +12,9 @@ use Rattle.std.specs.List.Sorted.{IsPermutation}
 use Rattle.ng_class.specs.Class as class
 use Rattle.ng_class.specs.Class.{units_of}
 use Rattle.ng_space.specs.Callers.{Caller}
-use Rattle.ng_space.specs.Tokens.{HasSlot, Token}
+use Rattle.ng_space.specs.Leaving.{KeepsBook, KeepsSlots}
+use Rattle.ng_space.specs.Tokens.{HasSlot, LiesAt, Token}
+use Rattle.ng_view.specs.declared.view.Place.{Place}
 use Rattle.ng_group.specs.Hands.{IsApart}
 use Rattle.ng_group.specs.Tests.{HasAll, is_same_slot}
 
@@ -22,6 +24,17 @@ apart_flips token other apart = ⊎_elim
     (λ (meta : token.meta ≢ other.meta). inl (λ e. meta (sym e)))
     (λ (index : token.index ≢ other.index). inr (λ e. index (sym e)))
     apart
+
+-- ---- a slot that the hand had, where its slots stay
+pub slot_stays : (hand new : Caller) → KeepsBook hand new → KeepsSlots hand.view new.view → (token : Token) → HasSlot hand token → HasSlot new token
+slot_stays hand new book slots token has =
+    let k = slots token.meta token.index has.held has.found in record {
+      own = has.own ∙ sym book.number;
+      held = k.0;
+      found = k.1;
+      free = k.2.block ∙ has.free;
+      place = subst (λ (p : Place). LiesAt p token) (sym k.2.place) has.place;
+    }
 
 -- class 1 has room for 20 bytes
 pub class_1_fits : 24 ≤ 16 * units_of 1

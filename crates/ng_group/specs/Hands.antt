@@ -1,13 +1,16 @@
 -- What a hand comes to have by a call of the core.
-use Rattle.std.specs.Prelude.{◌≡◌, ◌≢◌, ◌⊎◌, ℕ, ◌+◌, ◌≤◌, List, [], ◌∷◌, Some}
+use Rattle.std.specs.Prelude.{◌≡◌, ◌≢◌, ◌⊎◌, ℕ, ◌+◌, ◌≤◌, max, List, [], ◌∷◌, Some}
 use Rattle.ng_view.specs.Notes.{excuse_of_call}
 use Rattle.ng_view.specs.Blocks.{Knows}
 use Rattle.ng_view.specs.Steps.{popped, with_excuse}
 use Rattle.ng_view.specs.declared.view.Group.{Group}
 use Rattle.ng_view.specs.declared.view.Held.{Held}
 use Rattle.ng_view.specs.declared.view.View.{View}
+use Rattle.ng_mapper.specs.declared.refusals.Refusals.{Refusals}
 use Rattle.ng_space.specs.Callers.{Caller}
+use Rattle.ng_space.specs.Passed.{ExcuseToken, HasExcuse}
 use Rattle.ng_space.specs.Tokens.{HasSlot, Token}
+use Rattle.ng_terms.specs.Causes.{Rose}
 use Rattle.ng_group.specs.Steps.{Came}
 
 -- the same slot with the same block, of which more cells may be known
@@ -38,6 +41,15 @@ pub record GainsSlot (meta index : ℕ) (v w : View) : Type 0 where
 -- the excuse of a refused map call came, and words were read
 pub record GainsExcuse (number : ℕ) (v w : View) : Type 0 where
   pub learns : Learns (with_excuse v (Some (excuse_of_call number))) w
+
+-- the hand has the excuse, which alone came; its number is the mapper's count of refusals, which rose; and the most refused
+-- pages, where they rose, rose to so many at most
+pub record GetsExcuse (pages : ℕ) (before after : Caller) (was now : Refusals) (excuse : ExcuseToken) : Type 0 where
+  pub has : HasExcuse after excuse
+  pub gains : GainsExcuse excuse.number before.view after.view
+  pub number_is : excuse.number ≡ now.count
+  pub rose : Rose was.count now.count
+  pub most : now.most ≤ max was.most pages
 
 -- the hand has the slot, of a group of the class, with room for so many bytes and 4
 pub record IsSlotFor (class bytes : ℕ) (hand : Caller) (token : Token) : Type 0 where

@@ -1,20 +1,19 @@
-ghost use Rattle.std.specs.Prelude.{◌≡◌, ◌+◌, ◌*◌, ◌<◌, ◌≤◌, IfErr, IfOk, OnErr, OnOk, max, slice_get, sum_by};
+ghost use Rattle.std.specs.Prelude.{◌≡◌, ◌+◌, ◌*◌, ◌<◌, ◌≤◌, IfErr, IfOk, OnErr, OnOk, slice_get, sum_by};
 ghost use Rattle.ng_mapper.specs.Mapping.{NotesNone};
 ghost use Rattle.ng_class.specs.Class.{units_of};
 ghost use Rattle.ng_lists.specs.Rings.{ring_of};
 ghost use Rattle.ng_policy.specs.Bounce.{no_bounces};
 ghost use Rattle.ng_space.specs.Blocks.{BlockToken, HasBlock};
+ghost use Rattle.ng_space.specs.Leaving.{KeepsBook, KeepsSlots};
 ghost use Rattle.ng_space.specs.Tokens.{HasSlot, Token};
-ghost use Rattle.ng_space.specs.Passed.{HasExcuse};
 ghost use Rattle.ng_view.specs.Conditions.{IsBlanked, IsSettled};
 ghost use Rattle.ng_group.specs.Asking.{BuildsWanted, LeavesHeap, RefusedWanted};
-ghost use Rattle.ng_group.specs.Hands.{GainsExcuse, GainsSlot, IsApart, IsSlotFor};
+ghost use Rattle.ng_group.specs.Hands.{GainsSlot, GetsExcuse, IsApart, IsSlotFor};
 ghost use Rattle.ng_group.specs.Lone.{BuildsLone, IsLoneRefused};
 ghost use Rattle.ng_group.specs.Opening.{AreEmpty, IsFreshMapper, IsFreshSeat, IsHandedBack};
 ghost use Rattle.ng_group.specs.Returning.{ReturnsOfHand};
 ghost use Rattle.ng_group.specs.Steps.{GoesOn};
 ghost use Rattle.ng_terms.specs.Accounts.{pages_for};
-ghost use Rattle.ng_terms.specs.Causes.{Rose};
 ghost use Rattle.ng_view.specs.Steps.{pushed};
 
 use crate::tables::Tables;
@@ -125,23 +124,18 @@ impl<N: Name, M: Mapper, P: Rules> Core<N, M, P> {
         ensures slot { IfOk result (IsSlotFor class bytes hand.new) }
         ensures gains { IfOk result (λ slot. GainsSlot slot.meta slot.index hand.old.view hand.new.view) }
         ensures apart { IfOk result (λ slot. (token : Token) → HasSlot hand.old token → IsApart token slot) }
-        ensures others { (token : Token) → HasSlot hand.old token → HasSlot hand.new token }
-        ensures blocks { (block : BlockToken) → HasBlock hand.old block → HasBlock hand.new block }
         ensures calm { OnOk result
             (NotesNone (M.refused self.old.mapper) (M.refused self.new.mapper)) }
-        ensures excuse { IfErr result (HasExcuse hand.new) }
-        ensures excused { IfErr result (λ excuse. GainsExcuse excuse.number hand.old.view hand.new.view) }
-        ensures number_is { IfErr result (λ excuse. excuse.number ≡ (M.refused self.new.mapper).count) }
-        ensures rose { OnErr result (Rose (M.refused self.old.mapper).count (M.refused self.new.mapper).count) }
         ensures builds { OnOk result (BuildsWanted (P.count_gives self.old.rules) self.old self.new class bytes) }
+        ensures excuse { IfErr result
+            (GetsExcuse 512 hand.old hand.new
+            (M.refused self.old.mapper) (M.refused self.new.mapper)) }
         ensures cause { OnErr result (RefusedWanted (P.count_gives self.old.rules) self.old self.new class bytes (M.refused self.new.mapper).last) }
         ensures leaves { OnErr result (LeavesHeap self.old self.new) }
-        ensures most { OnErr result ((M.refused self.new.mapper).most ≤ max (M.refused self.old.mapper).most 512) }
+        ensures slots { KeepsSlots hand.old.view hand.new.view }
+        ensures book { KeepsBook hand.old hand.new }
         ensures on { GoesOn self.old.seat self.new.seat }
         ensures rules { self.new.rules ≡ self.old.rules }
-        ensures number { hand.new.number ≡ hand.old.number }
-        ensures spare { hand.new.spare ≡ hand.old.spare }
-        ensures entries { hand.new.entries ≡ hand.old.entries }
     {
         if let Some(first) = self.works.rings.first(class) {
             match pop(space, hand, first, class) {
@@ -169,23 +163,18 @@ impl<N: Name, M: Mapper, P: Rules> Core<N, M, P> {
         ensures slot { IfOk result (IsSlotFor 63 bytes hand.new) }
         ensures gains { IfOk result (λ slot. GainsSlot slot.meta slot.index hand.old.view hand.new.view) }
         ensures apart { IfOk result (λ slot. (token : Token) → HasSlot hand.old token → IsApart token slot) }
-        ensures others { (token : Token) → HasSlot hand.old token → HasSlot hand.new token }
-        ensures blocks { (block : BlockToken) → HasBlock hand.old block → HasBlock hand.new block }
         ensures calm { OnOk result
             (NotesNone (M.refused self.old.mapper) (M.refused self.new.mapper)) }
-        ensures excuse { IfErr result (HasExcuse hand.new) }
-        ensures excused { IfErr result (λ excuse. GainsExcuse excuse.number hand.old.view hand.new.view) }
-        ensures number_is { IfErr result (λ excuse. excuse.number ≡ (M.refused self.new.mapper).count) }
-        ensures rose { OnErr result (Rose (M.refused self.old.mapper).count (M.refused self.new.mapper).count) }
         ensures builds { IfOk result (λ slot. BuildsLone slot.meta self.old self.new bytes) }
+        ensures excuse { IfErr result
+            (GetsExcuse (pages_for bytes) hand.old hand.new
+            (M.refused self.old.mapper) (M.refused self.new.mapper)) }
         ensures cause { OnErr result (IsLoneRefused self.old self.new bytes (M.refused self.new.mapper).last) }
         ensures leaves { OnErr result (LeavesHeap self.old self.new) }
-        ensures most { OnErr result ((M.refused self.new.mapper).most ≤ max (M.refused self.old.mapper).most (pages_for bytes)) }
+        ensures slots { KeepsSlots hand.old.view hand.new.view }
+        ensures book { KeepsBook hand.old hand.new }
         ensures on { GoesOn self.old.seat self.new.seat }
         ensures rules { self.new.rules ≡ self.old.rules }
-        ensures number { hand.new.number ≡ hand.old.number }
-        ensures spare { hand.new.spare ≡ hand.old.spare }
-        ensures entries { hand.new.entries ≡ hand.old.entries }
     {
         match self.works.seat_lone(space, bytes) {
             Ok(meta) => Ok(space.slot_to_hand(&mut self.works.seat, hand, meta, 0)),
@@ -201,11 +190,9 @@ impl<N: Name, M: Mapper, P: Rules> Core<N, M, P> {
         ensures blocks { (block : BlockToken) → HasBlock hand.old block → HasBlock hand.new block }
         ensures calm { NotesNone (M.refused self.old.mapper) (M.refused self.new.mapper) }
         ensures returns { ReturnsOfHand (P.keep_gives self.old.rules) M.runs self.old self.new slot.meta slot.index }
+        ensures book { KeepsBook hand.old hand.new }
         ensures on { GoesOn self.old.seat self.new.seat }
         ensures rules { self.new.rules ≡ self.old.rules }
-        ensures number { hand.new.number ≡ hand.old.number }
-        ensures spare { hand.new.spare ≡ hand.old.spare }
-        ensures entries { hand.new.entries ≡ hand.old.entries }
     {
         let (meta, index) = (slot.meta(), slot.index());
         space.slot_to_seat(hand, &mut self.works.seat, slot);

@@ -1,14 +1,9 @@
--- What a push of a hand's slot leaves of its view.
-use Rattle.std.proofs.Common.{◌≡◌, ℕ, zero, suc, ◌+◌, Bool, List, [], ◌∷◌, refl, sym, ap, ◌∙◌, subst}
+-- What a free does, by the answer of its push.
+use Rattle.std.proofs.Common.{◌≡◌, Bool, List, [], sym, ap, ◌∙◌, subst}
 use Rattle.std.proofs.lemmas.List.{append-nil}
-use Rattle.ng_space.specs.Leaving.{Leaves, LeavesAll}
-use Rattle.ng_space.proofs.LeavingFrames.{all_leaves, leaves_all_then, leaves_held, leaves_itself, leaves_loaded, leaves_then}
-use Rattle.ng_mask.specs.Pushes.{Answers, HasPushCause, LastLoads, Loads, Loses, LosesOnce, Pushed, Sets}
+use Rattle.ng_mask.specs.Pushes.{Answers, Pushed}
 use Rattle.ng_mask.specs.declared.outcome.Needs.{Needs}
-use Rattle.ng_mask.specs.declared.outcome.Needs.TheVariants as needs
-use Rattle.ng_mask.specs.declared.outcome.Push.{Push}
-use Rattle.ng_mask.specs.declared.outcome.Push.TheVariants.{Done, Left}
-use Rattle.ng_view.specs.Steps.{loaded, pushed, read}
+use Rattle.ng_view.specs.Steps.{pushed}
 use Rattle.ng_view.specs.declared.view.View.{View}
 use Rattle.ng_space.specs.Callers.{Caller}
 use Rattle.ng_space.specs.Blocks.{BlockToken}
@@ -21,69 +16,6 @@ use Rattle.ng_policy.specs.declared.ask.Spare.{Spare}
 use Rattle.ng_heap.specs.Freeing.{FreesIn, FreesUnlocked, OnLeft, Settles, pushed_as}
 use Rattle.ng_heap.specs.declared.freeing.Unlocked.{Unlocked}
 use Rattle.ng_heap.specs.declared.freeing.Unlocked.TheVariants as unlocked
-use Rattle.ng_heap.proofs.StayLemmas.{gone_each, gone_others, pushed_rest}
-
--- ---- the parts of a push
-read_leaves : (v w : View) (a x : ℕ) → w ≡ read v a x → LeavesAll v w
-read_leaves v w a x is = leaves_held v w (ap (λ (u : View). u.held) is) (record {
-  excuses = ap (λ (u : View). u.excuses) is;
-  sent = ap (λ (u : View). u.sent) is;
-  taken = ap (λ (u : View). u.taken) is;
-  more = (a, x) ∷ [];
-  readings = ap (λ (u : View). u.readings) is;
-})
-
-loads_leave : (s : Pushed) (freed avail : ℕ) (v w : View) → Loads s freed avail v w → LeavesAll v w
-loads_leave s freed avail v w loads =
-    let u : View = loaded v (s.meta + 28) loads.first in
-    leaves_all_then v u w (leaves_loaded v u (s.meta + 28) loads.first refl) (leaves_loaded u w (s.meta + 24) loads.second loads.view)
-
-lost_leaves : (s : Pushed) (v w : View) → LosesOnce s v w → LeavesAll v w
-lost_leaves s v w lost =
-    leaves_all_then v lost.between w (loads_leave s lost.freed lost.avail v lost.between lost.loads)
-    (read_leaves lost.between w (s.meta + 28) lost.found lost.view)
-
-loses_leave : (s : Pushed) (n : ℕ) (v w : View) → Loses s n v w → LeavesAll v w
-loses_leave s zero v w same =
-    subst (λ (u : View). LeavesAll v u) same (leaves_itself v)
-loses_leave s (suc n) v w (u, before, last) = leaves_all_then v u w (loses_leave s n v u before) (lost_leaves s u w last)
-
-last_leaves : (s : Pushed) (freed avail : ℕ) (v w : View) → LastLoads s freed avail v w → LeavesAll v w
-last_leaves s freed avail v w last =
-    leaves_all_then v last.between w (loses_leave s last.lost v last.between last.loses) (loads_leave s freed avail last.between w last.loads)
-
--- ---- the slot goes
-pub pushed_leaves : (slot : Token) (v w : View) → w ≡ pushed v slot.meta slot.index → Leaves slot v w
-pushed_leaves slot v w is = record {
-  others = gone_others slot v w (ap (λ (u : View). u.held) is);
-  rest = pushed_rest v w slot.meta slot.index is;
-  each = gone_each slot v w (ap (λ (u : View). u.held) is);
-}
-
-set_leaves : (slot : Token) (last : ℕ) (v w : View) → Sets (record { meta = slot.meta; index = slot.index; last = last }) v w → Leaves slot v w
-set_leaves slot last v w sets =
-    let u : View = sets.between in
-    let p : View = pushed u slot.meta slot.index in
-    let came = last_leaves (record { meta = slot.meta; index = slot.index; last = last }) sets.freed sets.avail v u sets.loads in
-    leaves_then slot v u w (all_leaves slot v u came)
-    (leaves_then slot u p w (pushed_leaves slot u p refl) (all_leaves slot p w (read_leaves p w (slot.meta + 28) sets.freed sets.view)))
-
--- ---- the whole push
-answers_leave : {X : Type 0} (slot : Token) (last : ℕ) (v w : View) (answer : Push X)
-    → Answers (record { meta = slot.meta; index = slot.index; last = last }) answer v w → Leaves slot v w
-answers_leave slot last v w Done sets = set_leaves slot last v w sets
-answers_leave slot last v w (Left token needs.First) none =
-    all_leaves slot v w (last_leaves (record { meta = slot.meta; index = slot.index; last = last }) 0 none.avail v w none.loads)
-answers_leave slot last v w (Left token (needs.Last freed avail)) full =
-    all_leaves slot v w (last_leaves (record { meta = slot.meta; index = slot.index; last = last }) freed avail v w full.loads)
-answers_leave slot last v w (Left token needs.Lost) lost =
-    all_leaves slot v w (loses_leave (record { meta = slot.meta; index = slot.index; last = last }) 32 v w lost)
-
-pub push_leaves : {X : Type 0} (slot : Token) (v w : View) (answer : Push X) → HasPushCause v slot.meta slot.index answer w → Leaves slot v w
-push_leaves slot v w answer cause =
-    let u : View = loaded v (slot.meta + 32) cause.flags in
-    leaves_then slot v u w (all_leaves slot v u (leaves_loaded v u (slot.meta + 32) cause.flags refl))
-    (answers_leave slot cause.last u w answer cause.answers)
 
 -- ---- the answer of a free
 -- the slot that was left

@@ -7,6 +7,7 @@ use Rattle.ng_class.specs.Class.{IsAllowedClass, units_of}
 use Rattle.ng_class.proofs.Classes.{allowed_least, units_of_next}
 use Rattle.ng_mapper.specs.declared.refusals.Refusals.{Refusals}
 use Rattle.ng_policy.specs.declared.ask.Ask.{Ask}
+use Rattle.ng_terms.specs.Accounts.{pages_for}
 use Rattle.ng_terms.specs.Causes.{Rose}
 use Rattle.ng_terms.specs.declared.refusal.AllocRefusal.TheVariants.{NoMemory}
 use Rattle.ng_rule.proofs.geometry.Lists.{is_at-here}
@@ -15,18 +16,18 @@ use Rattle.ng_view.specs.Notes.{excuse_of_call}
 use Rattle.ng_view.specs.Steps.{in_motion, without_one}
 use Rattle.ng_view.specs.declared.view.Held.{Held}
 use Rattle.ng_view.specs.declared.view.View.{View}
-use Rattle.ng_space.specs.Leaving.{AreFramed, HasFrame, IsOther, KeepsAll, KeepsOthers, KeepsRest, Learns, Leaves, LeavesAll}
+use Rattle.ng_space.specs.Leaving.{AreFramed, HasFrame, IsOther, KeepsAll, KeepsBook, KeepsOthers, KeepsRest, KeepsSlots, Learns, Leaves, LeavesAll}
 use Rattle.ng_space.proofs.LeavingFrames.{free_frame, held_each, learns_frame}
 use Rattle.ng_space.proofs.Leaving.{all_then, held_all, not_at}
-use Rattle.ng_frame.proofs.Tokens.{live_apart}
-use Rattle.ng_space.specs.Blocks.{BlockToken, HasBlock, OfSlot, Serves}
+use Rattle.ng_frame.proofs.Tokens.{block_stays, live_apart}
+use Rattle.ng_space.specs.Blocks.{OfSlot, Serves}
 use Rattle.ng_space.specs.Callers.{Caller}
 use Rattle.ng_space.specs.Passed.{EntersNoMemory, ExcuseToken}
 use Rattle.ng_space.specs.Tokens.{HasSlot, Token}
 use Rattle.ng_group.specs.Asking.{BuildsWanted, LeavesHeap, RefusedWanted}
 use Rattle.ng_group.specs.ClassFor.{IsClassFor, IsLooked}
-use Rattle.ng_group.specs.Hands.{AreSameSlots, GainsExcuse, GainsSlot, IsApart, IsSameSlot, IsSlotFor}
-use Rattle.ng_group.specs.Lone.{BuildsLone}
+use Rattle.ng_group.specs.Hands.{AreSameSlots, GainsExcuse, GainsSlot, GetsExcuse, IsApart, IsSameSlot, IsSlotFor}
+use Rattle.ng_group.specs.Lone.{BuildsLone, IsLoneRefused}
 use Rattle.ng_group.specs.States.{State}
 use Rattle.ng_group.specs.Steps.{GoesOn}
 use Rattle.ng_heap.specs.Causes.{BuildsFor, HasClass, HasRefusalCause, Looks, threshold}
@@ -35,10 +36,6 @@ use Rattle.ng_heap.specs.Keeps.{IsFresh}
 -- a slot, or an excuse
 abbrev pub Answer : Type 0
 Answer = Result Token ExcuseToken
-
--- the hand's blocks stay
-abbrev pub BlocksStay : Caller → Caller → Type 0
-BlocksStay before after = (block : BlockToken) → HasBlock before block → HasBlock after block
 
 -- ---- the same slots, of which more cells may be known
 same_learns : (h k : Held) → IsSameSlot h k → Learns h k
@@ -134,10 +131,14 @@ abbrev pub IsApartFrom : Caller → Token → Type 0
 IsApartFrom before slot = (token : Token) → HasSlot before token → IsApart token slot
 
 pub answered_fresh : (before after : Caller) (class bytes : ℕ) (answer : Answer) → IfOk answer (IsSlotFor class bytes after)
-    → IfOk answer (IsApartFrom before) → BlocksStay before after → IfOk answer (IsFresh before)
-answered_fresh before after class bytes (Ok slot) is apart blocks =
-    record { slots = apart; blocks = λ other live. live_apart after slot other is.has (blocks other live) }
-answered_fresh before after class bytes (Err excuse) is apart blocks = tt
+    → IfOk answer (IsApartFrom before) → KeepsBook before after → KeepsSlots before.view after.view → IfOk answer (IsFresh before)
+answered_fresh before after class bytes (Ok slot) is apart book slots = record {
+  slots = apart;
+  blocks = λ other live.
+      let stays = slots other.slot.meta other.slot.index in
+      live_apart after slot other is.has (block_stays before after book.number other stays live);
+}
+answered_fresh before after class bytes (Err excuse) is apart book slots = tt
 
 -- ---- its class serves the bytes
 of_tag : (hand : Caller) (class bytes : ℕ) (slot : Token) (P : Held → Type 0) → IsSlotFor class bytes hand slot
@@ -211,19 +212,27 @@ answered_builds {P = P} gives before looked after n class hand (Ok slot) looks s
 answered_builds gives before looked after n class hand (Err excuse) looks small is builds = tt
 
 -- ---- a map call was refused
+pub answered_lone_cause : {M P : Type 0} (counts : Ask → ℕ → Type 0) (refused : M → Refusals) (before after : State M P) (n : ℕ)
+    (hand new : Caller) (answer : Answer) → threshold ≤ n
+    → IfErr answer (GetsExcuse (pages_for n) hand new (refused before.mapper) (refused after.mapper))
+    → OnErr answer (IsLoneRefused before after n (refused after.mapper).last)
+    → OnErr answer (LeavesHeap before after)
+    → IfErr answer (λ excuse. HasRefusalCause counts refused before after n (NoMemory excuse.number))
+answered_lone_cause counts refused before after n hand new (Ok slot) many gets cause leaves = tt
+answered_lone_cause counts refused before after n hand new (Err excuse) many gets cause leaves =
+    (gets.number_is, gets.rose, omega (arith, gets.most), inl (many, cause, leaves))
+
 pub answered_cause : {M P : Type 0} (gives : P → Ask → ℕ → Type 0) (refused : M → Refusals) (before looked after : State M P) (n class : ℕ)
-    (answer : Answer) → Looks before looked n class → n < threshold
-    → IfErr answer (λ excuse. excuse.number ≡ (refused after.mapper).count)
-    → OnErr answer (Rose (refused looked.mapper).count (refused after.mapper).count)
-    → OnErr answer ((refused after.mapper).most ≤ max (refused looked.mapper).most 512)
+    (hand new : Caller) (answer : Answer) → Looks before looked n class → n < threshold
+    → IfErr answer (GetsExcuse 512 hand new (refused looked.mapper) (refused after.mapper))
     → OnErr answer (RefusedWanted (gives looked.rules) looked after class n (refused after.mapper).last)
     → OnErr answer (LeavesHeap looked after)
     → IfErr answer (λ excuse. HasRefusalCause (gives before.rules) refused before after n (NoMemory excuse.number))
-answered_cause gives refused before looked after n class (Ok slot) looks small number rose most cause leaves = tt
-answered_cause {M = M} {P = P} gives refused before looked after n class (Err excuse) looks small number rose most cause leaves = (
-  number,
-  subst (λ (m : M). Rose (refused m).count (refused after.mapper).count) mapper rose,
-  omega (arith, subst (λ (m : M). (refused after.mapper).most ≤ max (refused m).most 512) mapper most),
+answered_cause gives refused before looked after n class hand new (Ok slot) looks small gets cause leaves = tt
+answered_cause {M = M} {P = P} gives refused before looked after n class hand new (Err excuse) looks small gets cause leaves = (
+  gets.number_is,
+  subst (λ (m : M). Rose (refused m).count (refused after.mapper).count) mapper gets.rose,
+  omega (arith, subst (λ (m : M). (refused after.mapper).most ≤ max (refused m).most 512) mapper gets.most),
   inr (small, (looked, class, looks, wanted, leaves)),
 )
   where

@@ -26,11 +26,7 @@ fn two_threads_share_a_heap(rt: HostRuntime) -> Result<(), Fail> {
     share_in_two::<Brand, _, _>(&rt, alloc, blank, tables, mapper, rules)
 }
 
-fn share_in_two<
-    N: Name + Send + Sync,
-    P: Rules + Send + Drop,
-    R: Threads + Wait + Abort + Sync,
->(
+fn share_in_two<N: Name + Send + Sync, P: Rules + Send + Drop, R: Threads + Wait + Abort + Sync>(
     rt: &R,
     alloc: Global,
     blank: Blank,

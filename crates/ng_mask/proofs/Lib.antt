@@ -4,3 +4,4 @@ pub mod Motion
 pub mod Fetches
 pub mod Trading
 pub mod PopCounts
+pub mod Leaving

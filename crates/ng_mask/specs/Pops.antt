@@ -1,5 +1,6 @@
 -- Why a pop answers as it does, by the words that it found.
 use Rattle.std.specs.Prelude.{◌≡◌, ◌≢◌, ℕ, zero, suc, ◌+◌, ◌/◌, ◌%◌, ◌^◌, ◌<◌}
+use Rattle.ng_space.specs.Leaving.{Leaves, LeavesAll}
 use Rattle.ng_space.specs.Masks.{Pops}
 use Rattle.ng_space.specs.Tokens.{Token}
 use Rattle.ng_view.specs.Steps.{loaded, read}
@@ -69,3 +70,10 @@ OnWon (Won slot) P = P slot
 OnWon Bare P = Unit {0}
 OnWon (Other tag) P = Unit {0}
 OnWon Lost P = Unit {0}
+
+-- the pop leaves all of the hand but the slot that was won
+abbrev pub PopLeaves : {X : Type 0} → Pop X → View → View → Type 0
+PopLeaves (Won slot) before after = Leaves slot before after
+PopLeaves Bare before after = LeavesAll before after
+PopLeaves (Other tag) before after = LeavesAll before after
+PopLeaves Lost before after = LeavesAll before after

@@ -1,6 +1,7 @@
 -- Why a push answers as it does, by the words that it found.
 use Rattle.std.specs.Prelude.{◌≡◌, ◌≢◌, ℕ, zero, suc, ◌+◌, ◌%◌, ◌^◌, ◌<◌, bit_or, Some}
 use Rattle.ng_class.specs.Mask.{all_bits_of}
+use Rattle.ng_space.specs.Leaving.{Leaves, LeavesAll}
 use Rattle.ng_space.specs.Tokens.{Token}
 use Rattle.ng_view.specs.Lists.{find}
 use Rattle.ng_view.specs.Steps.{loaded, pushed, read}
@@ -100,3 +101,8 @@ pub record HasPushCause {X : Type 0} (before : View) (meta index : ℕ) (answer 
 abbrev pub OnLeft : {X : Type 0} → Push X → (Token → Type 0) → Type 0
 OnLeft Done P = Unit {0}
 OnLeft (Left token needs) P = P token
+
+-- the push leaves all of the hand but the slot that was put into the mask
+abbrev pub PushLeaves : {X : Type 0} → Token → Push X → View → View → Type 0
+PushLeaves slot Done before after = Leaves slot before after
+PushLeaves slot (Left token needs) before after = LeavesAll before after

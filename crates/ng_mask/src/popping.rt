@@ -2,7 +2,7 @@ ghost use Rattle.std.specs.Prelude.{◌≡◌, ◌<◌};
 ghost use Rattle.ng_meta.specs.Place.{IsMetaPlace};
 ghost use Rattle.ng_space.specs.Placed.{AreOnce};
 ghost use Rattle.ng_space.specs.Tokens.{HasSlot};
-ghost use Rattle.ng_mask.specs.Pops.{HasPopCause, OnWon};
+ghost use Rattle.ng_mask.specs.Pops.{HasPopCause, OnWon, PopLeaves};
 
 use crate::outcome::Pop;
 use ng_meta::{AVAIL, mask_of, tag_of};
@@ -19,6 +19,7 @@ pub fn pop<N: Name>(space: &Space<N>, hand: &mut Hand<N>, meta: u64, class: u32)
     ensures once { OnWon result (λ slot. AreOnce hand.new.view) }
     ensures meta { OnWon result (λ slot. slot.meta ≡ meta) }
     ensures cause { HasPopCause hand.old.view meta class result hand.new.view }
+    ensures leaves { PopLeaves result hand.old.view hand.new.view }
     ensures number { hand.new.number ≡ hand.old.number }
     ensures spare { hand.new.spare ≡ hand.old.spare }
     ensures entries { hand.new.entries ≡ hand.old.entries }

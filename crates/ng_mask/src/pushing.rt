@@ -1,7 +1,7 @@
 ghost use Rattle.std.specs.Prelude.{◌≡◌, ◌+◌, ◌%◌, ◌<◌, ◌^◌};
 ghost use Rattle.ng_class.specs.Mask.{all_bits_of};
 ghost use Rattle.ng_space.specs.Tokens.{HasSlot};
-ghost use Rattle.ng_mask.specs.Pushes.{HasPushCause, OnLeft};
+ghost use Rattle.ng_mask.specs.Pushes.{HasPushCause, OnLeft, PushLeaves};
 
 use crate::outcome::{Needs, Push};
 use crate::popping::MOST_TRIES;
@@ -15,6 +15,7 @@ pub fn push<N: Name>(space: &Space<N>, hand: &mut Hand<N>, mut slot: Slot<N>) ->
     ensures left { OnLeft result (λ left. left ≡ slot) }
     ensures held { OnLeft result (HasSlot hand.new) }
     ensures cause { HasPushCause hand.old.view slot.meta slot.index result hand.new.view }
+    ensures leaves { PushLeaves slot result hand.old.view hand.new.view }
     ensures number { hand.new.number ≡ hand.old.number }
     ensures spare { hand.new.spare ≡ hand.old.spare }
     ensures entries { hand.new.entries ≡ hand.old.entries }

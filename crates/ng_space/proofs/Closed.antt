@@ -9,7 +9,8 @@ use Rattle.ng_view.specs.Views.{desk_of}
 use Rattle.ng_view.specs.declared.view.View.{View}
 use Rattle.ng_view.specs.declared.view.Start.{Start}
 use Rattle.ng_space.specs.Callers.{Caller}
-use Rattle.ng_space.specs.Closings.{AreAll, EndsWith, IsClosed, IsEven}
+use Rattle.ng_space.specs.Closings.{AreAll, EndsWith, IsClosed, IsEven, views_of}
+use Rattle.ng_space.proofs.Apart.{owned_once}
 use Rattle.ng_space.proofs.Ended.{ends, ends_settled, ends_blank}
 use Rattle.ng_space.proofs.Gathering.{Gathered, all_numbers, all_even, own_books, views, whole_views}
 use Rattle.ng_space.proofs.Hosting.{hosted, hosted-parcel}
@@ -37,6 +38,7 @@ closes key ws lock hands v books last in_all is count next all even settled blan
       classes = parts.classes;
       runs = ends_settled key ws last.views last.seat lock (views hands) last.ruled at is.leads in_all.deskless numbers evens whole settled;
       free = ends_blank key ws last.views last.seat lock (views hands) last.ruled at is.leads in_all.deskless numbers evens whole blanked;
+      apart = owned_once key ws (views_of lock hands) parts.slots parts.words;
       own = own_books hands in_all.own;
       whole = whole_views lock hands is.whole in_all.own;
     }

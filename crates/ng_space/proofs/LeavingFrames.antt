@@ -1,5 +1,5 @@
 -- What a call leaves of a hand: its slots, and that each block is framed.
-use Rattle.std.proofs.Common.{◌≡◌, ℕ, ◌-◌, ◌+◌, ◌*◌, ◌/◌, ◌%◌, refl, sym, ap, ◌∙◌, subst, ⊎_elim, inl, inr}
+use Rattle.std.proofs.Common.{◌≡◌, ℕ, ◌-◌, ◌+◌, ◌*◌, ◌/◌, ◌%◌, cond, Bool, true, false, List, [], ◌∷◌, refl, sym, ap, ◌∙◌, subst, ⊎_elim, inl, inr}
 use Rattle.std.specs.Prelude.{Option, Some, None}
 use Rattle.ng_rule.proofs.geometry.Lists.{among_edit, among_map, find_edit}
 use Rattle.ng_terms.specs.Heap.{extent}
@@ -8,8 +8,8 @@ use Rattle.ng_terms.specs.declared.entry.Entry.{Entry}
 use Rattle.ng_terms.specs.declared.entry.Entry.TheVariants.{Take}
 use Rattle.ng_rule.proofs.hand.Load.{carries_more}
 use Rattle.ng_view.specs.Frame.{Frames, IsFramed, IsShift, IsTrailer, KnowsByte}
-use Rattle.ng_view.specs.Lists.{Among, edit, find}
-use Rattle.ng_view.specs.Steps.{booked_block, given, learnt, loaded, stored, with_block, wrote}
+use Rattle.ng_view.specs.Lists.{Among, edit, find, is_at}
+use Rattle.ng_view.specs.Steps.{booked_block, given, learnt, loaded, regiven, stored, with_block, wrote}
 use Rattle.ng_view.specs.declared.view.Held.{Held}
 use Rattle.ng_view.specs.declared.view.View.{View}
 use Rattle.ng_space.specs.Blocks.{BlockToken, HasBlock, HasFramed, Kills}
@@ -112,6 +112,29 @@ given_each {a} old new slot p n k x has gives put framed =
     edited_each m i t mid.view new.view h held there (known_frame new (record { slot = slot; at = p; len = n; align = a }) (t h) put found)
     (stored_each old mid slot (p - 4) x has refl framed)
 
+-- two edits of a slot are one
+edit_twice : (m i : ℕ) (t u : Held → Held) (hs : List Held) → ((y : Held) → (t y).place ≡ y.place) → edit m i u (edit m i t hs) ≡ edit m i (λ y. u (t y)) hs
+edit_twice m i t u [] same = refl
+edit_twice m i t u (x ∷ xs) same = by_test (edit_twice m i t u xs same) (is_at m i x.place) refl
+  where
+    by_test : edit m i u (edit m i t xs) ≡ edit m i (λ y. u (t y)) xs → (b : Bool) → is_at m i x.place ≡ b
+        → edit m i u (cond b (t x ∷ xs) (x ∷ edit m i t xs)) ≡ cond b (u (t x) ∷ xs) (x ∷ edit m i (λ y. u (t y)) xs)
+    by_test ih true here = ap (λ b. cond b (u (t x) ∷ xs) (t x ∷ edit m i u xs)) (ap (is_at m i) (same x) ∙ here)
+    by_test ih false here = ap (λ b. cond b (u x ∷ edit m i t xs) (x ∷ edit m i u (edit m i t xs))) here ∙ ap (λ (l : List Held). x ∷ l) ih
+
+-- its block got another length
+regiven_each : (old new : Caller) (block : BlockToken) (n k x : ℕ) → HasBlock old block
+    → new.view ≡ regiven old.view block.slot.meta block.slot.index block.at n k x
+    → HasFramed new (record { slot = block.slot; at = block.at; len = n; align = 16 }) → AreFramed old.view → AreFramed new.view
+regiven_each old new block n k x has gives put framed =
+    let m : ℕ = block.slot.meta in
+    let i : ℕ = block.slot.index in
+    let t : Held → Held = λ h. with_block (Some (extent block.at n 16)) (wrote (block.at - 4) x h) in
+    let held : new.view.held ≡ edit m i t old.view.held = ap (λ (u : View). u.held) gives ∙ edit_twice m i (wrote (block.at - 4) x) (with_block (Some (extent block.at n 16))) old.view.held (λ y. refl) in
+    let found = ap (λ hs. find m i hs) held ∙ find_edit m i t old.view.held has.held (λ y. refl) has.found in
+    edited_each m i t old.view new.view has.held held has.found
+    (known_frame new (record { slot = block.slot; at = block.at; len = n; align = 16 }) (t has.held) put found) framed
+
 -- a block was ended
 pub killed_each : (old new : Caller) (block : BlockToken) (number : ℕ) → HasBlock old block → Kills old.view block number new.view
     → AreFramed old.view → AreFramed new.view
@@ -159,6 +182,17 @@ leaves_given {a} old new slot p n k x has gives put =
       others = others_then slot old.view mid new.view (stored_others slot old.view mid (p - 4) x refl) (booked_others slot mid new.view _ k _ gives);
       rest = rest_then old.view mid new.view (stored_rest old.view mid slot.meta slot.index (p - 4) x refl) (booked_rest mid new.view slot.meta slot.index _ k _ gives);
       each = given_each old new slot p n k x has gives put;
+    }
+
+pub leaves_regiven : (old new : Caller) (block : BlockToken) (n k x : ℕ) → HasBlock old block
+    → new.view ≡ regiven old.view block.slot.meta block.slot.index block.at n k x
+    → HasFramed new (record { slot = block.slot; at = block.at; len = n; align = 16 }) → Leaves block.slot old.view new.view
+leaves_regiven old new block n k x has gives put =
+    let slot = block.slot in
+    let mid : View = stored old.view slot.meta slot.index (block.at - 4) x in record {
+      others = others_then slot old.view mid new.view (stored_others slot old.view mid (block.at - 4) x refl) (booked_others slot mid new.view _ k _ gives);
+      rest = rest_then old.view mid new.view (stored_rest old.view mid slot.meta slot.index (block.at - 4) x refl) (booked_rest mid new.view slot.meta slot.index _ k _ gives);
+      each = regiven_each old new block n k x has gives put;
     }
 
 pub leaves_killed : (old new : Caller) (block : BlockToken) (number : ℕ) → HasBlock old block → Kills old.view block number new.view

@@ -4,12 +4,12 @@ use Rattle.std.proofs.lemmas.List.{append-nil}
 use Rattle.std.specs.Prelude.{Some, None}
 use Rattle.ng_rule.proofs.geometry.Lists.{among_without, is_at-here}
 use Rattle.ng_view.specs.Lists.{Among, find, is_at, without}
-use Rattle.ng_view.specs.Steps.{in_motion, loaded, popped, pushed, read}
+use Rattle.ng_view.specs.Steps.{in_motion, loaded, popped, pushed, read, with_held}
 use Rattle.ng_view.specs.declared.view.Group.{Group}
 use Rattle.ng_view.specs.declared.view.Held.{Held}
 use Rattle.ng_view.specs.declared.view.View.{View}
 use Rattle.ng_space.specs.Leaving.{AreFramed, HasFrame, IsOther, KeepsOthers, KeepsRest, Leaves, LeavesAll}
-use Rattle.ng_space.specs.Masks.{Looks, Pops}
+use Rattle.ng_space.specs.Masks.{Looks}
 use Rattle.ng_space.specs.Tokens.{Token}
 use Rattle.ng_space.proofs.Leaving.{learns_itself, not_at}
 use Rattle.ng_space.proofs.LeavingFrames.{all_leaves, free_frame, leaves_all_then, leaves_held, leaves_loaded, leaves_then}
@@ -95,6 +95,26 @@ module _ (slot : Token) (v w : View) (h : Held) (came : w.held ≡ h ∷ v.held)
       by_place (inl e) = subst HasFrame (sym e) (free_frame h free)
       by_place (inr was) = framed k was
 
+-- a slot out of another seat, whose meta was then looked at
+pub leaves_passed : (slot : Token) (v u w : View) (h : Held) (meta : ℕ) → u ≡ with_held v h → is_at slot.meta slot.index h.place ≡ true → h.block ≡ None → Looks u meta w → Leaves slot v w
+leaves_passed slot v u w h meta is here free looks = leaves_then slot v u w came (all_leaves slot u w (leaves_looked u meta w looks))
+  where
+    held : u.held ≡ h ∷ v.held
+    held = ap (λ (x : View). x.held) is
+
+    came : Leaves slot v u
+    came = record {
+      others = came_others slot v u h held here;
+      rest = record {
+        excuses = ap (λ (x : View). x.excuses) is;
+        sent = ap (λ (x : View). x.sent) is;
+        taken = ap (λ (x : View). x.taken) is;
+        more = [];
+        readings = ap (λ (x : View). x.readings) is ∙ sym (append-nil v.readings);
+      };
+      each = came_each slot v u h held here free;
+    }
+
 pub leaves_popped : (slot : Token) (v w : View) (g : Group) → g.meta ≡ slot.meta → w ≡ popped v g slot.index → Leaves slot v w
 leaves_popped slot v w g of_meta is = record {
   others = came_others slot v w x held here;
@@ -123,7 +143,3 @@ leaves_came slot v u w g i a x meta of_meta same is looks =
     let p : View = popped v g slot.index in
     leaves_then slot v p w (leaves_popped slot v p g of_meta refl)
     (all_leaves slot p w (leaves_all_then p u w (leaves_read p u a x (is ∙ ap (λ j. read (popped v g j) a x) same)) (leaves_looked u meta w looks)))
-
-pub leaves_pops : (slot : Token) (v : View) (meta seen : ℕ) (w : View) → slot.meta ≡ meta → Pops v meta seen slot.index w → Leaves slot v w
-leaves_pops slot v meta seen w is pops =
-    leaves_came slot v (read (popped v pops.group slot.index) (meta + 24) seen) w pops.group slot.index (meta + 24) seen meta (pops.of_meta ∙ sym is) refl refl pops.looks

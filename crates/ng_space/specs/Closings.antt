@@ -11,9 +11,11 @@ use Rattle.ng_view.specs.Knowledge.{Knowledge}
 use Rattle.ng_view.specs.Layouts.{InArea}
 use Rattle.ng_view.specs.Listing.{Listing}
 use Rattle.ng_view.specs.Lists.{Among, total_by}
+use Rattle.ng_view.specs.Places.{Owns}
 use Rattle.ng_view.specs.Rule.{Rule}
 use Rattle.ng_view.specs.Slots.{Slots}
 use Rattle.ng_view.specs.Words.{Words}
+use Rattle.ng_view.specs.declared.view.Held.{Held}
 use Rattle.ng_view.specs.declared.view.Layout.{Layout}
 use Rattle.ng_view.specs.declared.view.Run.{Run}
 use Rattle.ng_view.specs.declared.view.Start.{Start}
@@ -75,6 +77,11 @@ abbrev pub AreFreeMetasBlank : List ℕ → Layout → Type 0
 AreFreeMetasBlank ws d = (m b : ℕ) → m % 4 ≡ 0 → InArea d m → tag ws m ≡ 0
     → b < 40 → b % 4 ≡ 0 → cell ws (m + b) ≡ 0
 
+-- a cell, be it a header, of a body or a trailer, is the own cell of one slot of one view at most
+abbrev pub AreOwnedOnce : List View → Type 0
+AreOwnedOnce views = (a i j : ℕ) (v w : View) (x y : Held) → get_elem? views i ≡ some v → get_elem? views j ≡ some w
+    → Among x v.held → Among y w.held → Owns x.place a → Owns y.place a → (i ≡ j) × (x ≡ y)
+
 -- the parts of the rule hold of the last words and of what the seats knew at the end; nothing of the lock's seat is
 -- left half done; each hand has its own book, and no seat is a parcel's
 pub record IsClosed (key : Start) (ws : List ℕ) (lock : View) (hands : List Caller) : Type 0 where
@@ -87,5 +94,6 @@ pub record IsClosed (key : Start) (ws : List ℕ) (lock : View) (hands : List Ca
   pub classes : Classes (views_of lock hands)
   pub runs : AreRunsUsed ws lock.desk.layout
   pub free : AreFreeMetasBlank ws lock.desk.layout
+  pub apart : AreOwnedOnce (views_of lock hands)
   pub own : All HasOwnBook hands
   pub whole : All (λ (view : View). view.parcel ≡ false) (views_of lock hands)

@@ -17,8 +17,8 @@ use std::marker::Brand;
 
 impl<N: Name> Space<N> {
     /// Ends the heap. The lock's seat takes in all hands, whose books come back in their order; the
-    /// image has the last words, which with what the seats knew at the end meet the rule. It takes no
-    /// memory.
+    /// image has the last words, which with what the seats knew at the end meet the rule; no two seats
+    /// had a slot with the same cell. It takes no memory.
     pub fn close(self, seat: LockSeat<N>, hands: Vec<Hand<N>>) -> (Image, Vec<Book>)
         requires all { AreAll N.facts.hands hands.items }
         requires parcels { IsEven hands.items }

@@ -5,7 +5,7 @@ ghost use Rattle.ng_terms.specs.declared.entry.Entry.TheVariants.{Give, Resize, 
 ghost use Rattle.ng_view.specs.May.{May};
 ghost use Rattle.ng_view.specs.Steps.{given, regiven, stored};
 ghost use Rattle.ng_space.specs.Blocks.{BlockToken, HasBlock, HasFramed, IsReady, Kills, OfSlot, Serves, header_at};
-ghost use Rattle.ng_space.specs.Leaving.{Leaves};
+ghost use Rattle.ng_space.specs.Leaving.{KeepsOthers, KeepsRest, Leaves};
 ghost use Rattle.ng_space.specs.Tokens.{HasSlot, IsToken};
 
 use crate::block::Block;
@@ -65,6 +65,7 @@ impl<N: Name> Space<N> {
         ensures block { result ≡ record { slot = block.slot; at = block.at; len = n; align = 16 } }
         ensures has { HasFramed hand.new result }
         ensures view { hand.new.view ≡ regiven hand.old.view block.slot.meta block.slot.index block.at n hand.old.number (header_at block.slot block.at n) }
+        ensures leaves { Leaves block.slot hand.old.view hand.new.view }
         ensures entries { hand.new.entries ≡ hand.old.entries ++ Resize block.at n ∷ [] }
         ensures spare { hand.new.spare + 1 ≡ hand.old.spare }
         ensures number { hand.new.number ≡ hand.old.number }
@@ -123,6 +124,8 @@ impl<N: Name> Space<N> {
         requires from { block.now.at ≤ addr }
         requires below { addr < block.now.slot.end }
         ensures view { hand.new.view ≡ stored hand.old.view block.now.slot.meta block.now.slot.index addr value }
+        ensures others { KeepsOthers block.now.slot hand.old.view hand.new.view }
+        ensures rest { KeepsRest hand.old.view hand.new.view }
         ensures has { HasBlock hand.new block.now }
         ensures number { hand.new.number ≡ hand.old.number }
         ensures spare { hand.new.spare ≡ hand.old.spare }

@@ -38,6 +38,7 @@ impl<N: Name> Space<N> {
         requires slot { HasInMotion seat.old meta index }
         ensures seat { seat.new ≡ pushed seat.old meta index }
         ensures view { Looks (with_slot hand.old.view (find meta index seat.old.held)) meta hand.new.view }
+        ensures leaves { Leaves result hand.old.view hand.new.view }
         ensures meta { result.meta ≡ meta }
         ensures index { result.index ≡ index }
         ensures slot { HasSlot hand.new result }

@@ -2,6 +2,7 @@ use Rattle.std.proofs.Common.{◌≡◌, ℕ, ◌+◌, ◌%◌, sym, ap, ◌∙�
 use Rattle.ng_space.specs.Tokens.{Token}
 use Rattle.ng_view.specs.Steps.{pushed, read}
 use Rattle.ng_mask.proofs.Pushes.{all_lost, bit_is, fills, fills_not, has_cause, loads_both, loses_more}
+use Rattle.ng_mask.proofs.Leaving.{push_leaves}
 use Rattle.ng_mask.proofs.pushing.push.Goals as goal
 
 pub returns-then-freed-eq0-clause-cause : goal.returns-then-freed-eq0-clause-cause
@@ -85,3 +86,15 @@ pub returns-clause-cause : goal.returns-clause-cause
 returns-clause-cause g c =
     let least = c.loop-lost-test.false in let most = c.loop-lost.auto.lost-end in
     has_cause _ _ _ _ _ _ _ _ _ c.meta-meta.ensures.meta c.load-flags.ensures.told c.load-flags.ensures.view (all_lost _ _ _ _ most least c.loop-lost.invariant.0)
+
+pub returns-then-freed-eq0-clause-leaves : goal.returns-then-freed-eq0-clause-leaves
+returns-then-freed-eq0-clause-leaves g c = push_leaves c.args.slot c.args.hand.now.view _ _ (returns-then-freed-eq0-clause-cause g c)
+
+pub returns-then-freed-avail-clause-leaves : goal.returns-then-freed-avail-clause-leaves
+returns-then-freed-avail-clause-leaves g c = push_leaves c.args.slot c.args.hand.now.view _ _ (returns-then-freed-avail-clause-cause g c)
+
+pub returns-in-Ok-clause-leaves : goal.returns-in-Ok-clause-leaves
+returns-in-Ok-clause-leaves g c = push_leaves c.args.slot c.args.hand.now.view _ _ (returns-in-Ok-clause-cause g c)
+
+pub returns-clause-leaves : goal.returns-clause-leaves
+returns-clause-leaves g c = push_leaves c.args.slot c.args.hand.now.view _ _ (returns-clause-cause g c)

@@ -3,8 +3,8 @@ use Rattle.ng_terms.specs.Accounts.{pages_for}
 use Rattle.ng_view.specs.declared.view.View.{View}
 use Rattle.ng_group.specs.Hands.{GainsExcuse, GainsSlot}
 use Rattle.ng_group.proofs.AskedLemmas.{passed_leaves, passed_lone, passed_lone_cause}
-use Rattle.ng_group.proofs.CallLemmas.{Refuses, Serves, bounded_calm, bounded_most, excuse_found, excuse_number, refuses_at, rests_excuse, rests_slot, serves_at, slot_found, slot_motion, slot_place, works_of}
-use Rattle.ng_group.proofs.HandKeepLemmas.{apart_of, excused_blocks, excused_slots, gained_blocks, gained_slots}
+use Rattle.ng_group.proofs.CallLemmas.{Refuses, Serves, bounded_calm, bounded_most, excuse_found, excuse_number, gets_excuse, refuses_at, rests_excuse, rests_slot, serves_at, slot_found, slot_motion, slot_place, works_of}
+use Rattle.ng_group.proofs.HandKeepLemmas.{apart_of, excused_keeps, gained_keeps}
 use Rattle.ng_group.proofs.HandSlotLemmas.{excused, learns_same, passed, passed_slot}
 use Rattle.ng_group.proofs.heap_core.Core.alloc_lone.Given.{Over}
 use Rattle.ng_group.proofs.heap_core.Core.alloc_lone.Goals as goal
@@ -69,13 +69,8 @@ pub returns-in-Ok-clause-apart : goal.returns-in-Ok-clause-apart
 returns-in-Ok-clause-apart g c =
     apart_of c.args.hand.now c.slot_to_hand.new.hand c.slot_to_hand.result (gains g c) c.slot_to_hand.ensures.once
 
-pub returns-in-Ok-clause-others : goal.returns-in-Ok-clause-others
-returns-in-Ok-clause-others g c =
-    gained_slots c.args.hand.now c.slot_to_hand.new.hand c.slot_to_hand.result c.slot_to_hand.ensures.number (gains g c) c.slot_to_hand.ensures.once
-
-pub returns-in-Ok-clause-blocks : goal.returns-in-Ok-clause-blocks
-returns-in-Ok-clause-blocks g c =
-    gained_blocks c.args.hand.now c.slot_to_hand.new.hand c.slot_to_hand.result c.slot_to_hand.ensures.number (gains g c) c.slot_to_hand.ensures.once
+pub returns-in-Ok-clause-slots : goal.returns-in-Ok-clause-slots
+returns-in-Ok-clause-slots g c = gained_keeps _ _ _ _ (gains g c) c.slot_to_hand.ensures.once
 
 pub returns-in-Ok-clause-builds : goal.returns-in-Ok-clause-builds
 returns-in-Ok-clause-builds g c =
@@ -122,16 +117,14 @@ gains-in-Err g c =
     (excuse_found g.N.Name.facts.start g.M.Mapper.span g.M.Mapper.runs g.M.Mapper.refused (works_of c.self-inside.view_is) c.in-Err.number (refuses g c))
     c.excuse_to_hand.ensures.view
 
-pub returns-in-Err-clause-others : goal.returns-in-Err-clause-others
-returns-in-Err-clause-others g c =
-    excused_slots c.args.hand.now c.excuse_to_hand.new.hand c.excuse_to_hand.result.number c.excuse_to_hand.ensures.number (gains-in-Err g c)
+pub returns-in-Err-clause-slots : goal.returns-in-Err-clause-slots
+returns-in-Err-clause-slots g c = excused_keeps _ _ _ (gains-in-Err g c)
 
-pub returns-in-Err-clause-blocks : goal.returns-in-Err-clause-blocks
-returns-in-Err-clause-blocks g c =
-    excused_blocks c.args.hand.now c.excuse_to_hand.new.hand c.excuse_to_hand.result.number c.excuse_to_hand.ensures.number (gains-in-Err g c)
-
-pub returns-in-Err-clause-excused : goal.returns-in-Err-clause-excused
-returns-in-Err-clause-excused g c = gains-in-Err g c
+pub returns-in-Err-clause-excuse : goal.returns-in-Err-clause-excuse
+returns-in-Err-clause-excuse g c =
+    let passed = c.excuse_to_hand.ensures in
+    gets_excuse g.M.Mapper.refused (pages_for c.args.bytes) c.self.view_is (works_of c.self-inside.view_is) c.args.hand.now c.excuse_to_hand.new.hand c.in-Err.number c.excuse_to_hand.result
+    passed.excuse passed.has (gains-in-Err g c) c.in-Err.ensures.refused c.in-Err.ensures.most
 
 pub returns-in-Err-clause-cause : goal.returns-in-Err-clause-cause
 returns-in-Err-clause-cause g c =

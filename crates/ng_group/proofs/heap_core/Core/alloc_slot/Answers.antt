@@ -1,10 +1,10 @@
-use Rattle.std.proofs.Common.{ap, refl, sym, ◌∙◌, arith, inl, inr}
+use Rattle.std.proofs.Common.{ap, refl, sym, arith, inl, inr}
 use Rattle.ng_view.specs.declared.view.View.{View}
 use Rattle.ng_group.specs.Hands.{GainsExcuse, GainsSlot}
 use Rattle.ng_group.proofs.AskedLemmas.{passed_builds, passed_cause, passed_leaves}
-use Rattle.ng_group.proofs.CallLemmas.{Refuses, Serves, bounded_calm, bounded_most, excuse_found, excuse_number, first_place, refuses_at, rests_excuse, rests_slot, serves_at, slot_found, slot_motion, slot_place, works_of}
-use Rattle.ng_group.proofs.HandKeepLemmas.{apart_of, excused_blocks, excused_slots, gained_blocks, gained_slots}
-use Rattle.ng_group.proofs.HandSlotLemmas.{Tried, excused, passed, passed_slot, tried_not, tried_pop, won, won_slot}
+use Rattle.ng_group.proofs.CallLemmas.{Refuses, Serves, bounded_calm, bounded_most, excuse_found, excuse_number, first_place, gets_excuse, refuses_at, rests_excuse, rests_slot, serves_at, slot_found, slot_motion, slot_place, works_of}
+use Rattle.ng_group.proofs.HandKeepLemmas.{apart_of, excused_keeps, gained_keeps}
+use Rattle.ng_group.proofs.HandSlotLemmas.{Tried, excused, passed, passed_slot, tried_book, tried_not, tried_pop, won, won_slot}
 use Rattle.ng_group.proofs.WorkingLemmas.{goes_same}
 use Rattle.ng_group.proofs.heap_core.Core.alloc_slot.Given.{Over}
 use Rattle.ng_group.proofs.heap_core.Core.alloc_slot.Goals.{in-Some+in-Bare, in_default}
@@ -36,11 +36,8 @@ returns-in-Won-clause-gains g c = gains_won g c
 pub returns-in-Won-clause-apart : goal.returns-in-Won-clause-apart
 returns-in-Won-clause-apart g c = apart_of c.args.hand.now c.pop.new.hand c.in-Won.slot (gains_won g c) c.in-Won.ensures.once
 
-pub returns-in-Won-clause-others : goal.returns-in-Won-clause-others
-returns-in-Won-clause-others g c = gained_slots c.args.hand.now c.pop.new.hand c.in-Won.slot c.pop.ensures.number (gains_won g c) c.in-Won.ensures.once
-
-pub returns-in-Won-clause-blocks : goal.returns-in-Won-clause-blocks
-returns-in-Won-clause-blocks g c = gained_blocks c.args.hand.now c.pop.new.hand c.in-Won.slot c.pop.ensures.number (gains_won g c) c.in-Won.ensures.once
+pub returns-in-Won-clause-slots : goal.returns-in-Won-clause-slots
+returns-in-Won-clause-slots g c = gained_keeps _ _ _ _ (gains_won g c) c.in-Won.ensures.once
 
 pub returns-in-Won-clause-builds : goal.returns-in-Won-clause-builds
 returns-in-Won-clause-builds g c = inl refl
@@ -90,7 +87,7 @@ tried : (g : Over) (c : goal.After-slot_to_hand g) → Tried c.args.hand.now c.m
 tried g c = elim c.match-first.branch [
   | in-Some+in-Bare w ↦ tried_pop w.in-Some.first c.args.class c.args.hand.now w.pop.new.hand c.match-first.hand w.pop.result w.in-Bare.is
       w.pop.ensures.cause
-      w.pop.ensures.number
+      (record { number = w.pop.ensures.number; spare = w.pop.ensures.spare; entries = w.pop.ensures.entries })
       w.hand-is
   | in_default w ↦ tried_not c.args.hand.now c.match-first.hand w.hand-is
 ]
@@ -120,19 +117,13 @@ pub returns-in-Ok-clause-apart : goal.returns-in-Ok-clause-apart
 returns-in-Ok-clause-apart g c =
     apart_of c.args.hand.now c.slot_to_hand.new.hand c.slot_to_hand.result (gains g c) c.slot_to_hand.ensures.once
 
-pub returns-in-Ok-clause-others : goal.returns-in-Ok-clause-others
-returns-in-Ok-clause-others g c =
-    gained_slots c.args.hand.now c.slot_to_hand.new.hand c.slot_to_hand.result
-    (c.slot_to_hand.ensures.number ∙ (tried g c).number)
-    (gains g c)
-    c.slot_to_hand.ensures.once
+pub returns-in-Ok-clause-slots : goal.returns-in-Ok-clause-slots
+returns-in-Ok-clause-slots g c = gained_keeps _ _ _ _ (gains g c) c.slot_to_hand.ensures.once
 
-pub returns-in-Ok-clause-blocks : goal.returns-in-Ok-clause-blocks
-returns-in-Ok-clause-blocks g c =
-    gained_blocks c.args.hand.now c.slot_to_hand.new.hand c.slot_to_hand.result
-    (c.slot_to_hand.ensures.number ∙ (tried g c).number)
-    (gains g c)
-    c.slot_to_hand.ensures.once
+pub returns-in-Ok-clause-book : goal.returns-in-Ok-clause-book
+returns-in-Ok-clause-book g c =
+    let passed = c.slot_to_hand.ensures in
+    tried_book c.args.hand.now c.match-first.hand c.slot_to_hand.new.hand (tried g c) (record { number = passed.number; spare = passed.spare; entries = passed.entries })
 
 pub returns-in-Ok-clause-builds : goal.returns-in-Ok-clause-builds
 returns-in-Ok-clause-builds g c =
@@ -177,7 +168,7 @@ tried-in-Err : (g : Over) (c : goal.After-excuse_to_hand g) → Tried c.args.han
 tried-in-Err g c = elim c.match-first.branch [
   | in-Some+in-Bare w ↦ tried_pop w.in-Some.first c.args.class c.args.hand.now w.pop.new.hand c.match-first.hand w.pop.result w.in-Bare.is
       w.pop.ensures.cause
-      w.pop.ensures.number
+      (record { number = w.pop.ensures.number; spare = w.pop.ensures.spare; entries = w.pop.ensures.entries })
       w.hand-is
   | in_default w ↦ tried_not c.args.hand.now c.match-first.hand w.hand-is
 ]
@@ -191,20 +182,19 @@ gains-in-Err g c =
     (excuse_found g.N.Name.facts.start g.M.Mapper.span g.M.Mapper.runs g.M.Mapper.refused (works_of c.self-inside-2.view_is) c.in-Err.number (refuses g c))
     c.excuse_to_hand.ensures.view
 
-pub returns-in-Err-clause-others : goal.returns-in-Err-clause-others
-returns-in-Err-clause-others g c =
-    excused_slots c.args.hand.now c.excuse_to_hand.new.hand c.excuse_to_hand.result.number
-    (c.excuse_to_hand.ensures.number ∙ (tried-in-Err g c).number)
-    (gains-in-Err g c)
+pub returns-in-Err-clause-slots : goal.returns-in-Err-clause-slots
+returns-in-Err-clause-slots g c = excused_keeps _ _ _ (gains-in-Err g c)
 
-pub returns-in-Err-clause-blocks : goal.returns-in-Err-clause-blocks
-returns-in-Err-clause-blocks g c =
-    excused_blocks c.args.hand.now c.excuse_to_hand.new.hand c.excuse_to_hand.result.number
-    (c.excuse_to_hand.ensures.number ∙ (tried-in-Err g c).number)
-    (gains-in-Err g c)
+pub returns-in-Err-clause-book : goal.returns-in-Err-clause-book
+returns-in-Err-clause-book g c =
+    let passed = c.excuse_to_hand.ensures in
+    tried_book c.args.hand.now c.match-first.hand c.excuse_to_hand.new.hand (tried-in-Err g c) (record { number = passed.number; spare = passed.spare; entries = passed.entries })
 
-pub returns-in-Err-clause-excused : goal.returns-in-Err-clause-excused
-returns-in-Err-clause-excused g c = gains-in-Err g c
+pub returns-in-Err-clause-excuse : goal.returns-in-Err-clause-excuse
+returns-in-Err-clause-excuse g c =
+    let passed = c.excuse_to_hand.ensures in
+    gets_excuse g.M.Mapper.refused 512 c.self.view_is (works_of c.self-inside-2.view_is) c.args.hand.now c.excuse_to_hand.new.hand c.in-Err.number c.excuse_to_hand.result
+    passed.excuse passed.has (gains-in-Err g c) c.in-Err.ensures.refused c.in-Err.ensures.most
 
 pub returns-in-Err-clause-cause : goal.returns-in-Err-clause-cause
 returns-in-Err-clause-cause g c =

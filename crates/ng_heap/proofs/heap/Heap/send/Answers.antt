@@ -1,5 +1,5 @@
 use Rattle.ng_heap.specs.Keeps.{sent_one}
-use Rattle.ng_heap.proofs.FreeLemmas.{pushed_leaves}
+use Rattle.ng_space.proofs.LeavingSlots.{pushed_leaves}
 use Rattle.ng_heap.proofs.heap.Heap.send.Goals as goal
 
 pub returns-clause-leaves : goal.returns-clause-leaves

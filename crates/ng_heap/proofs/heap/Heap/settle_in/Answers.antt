@@ -1,4 +1,4 @@
-use Rattle.ng_heap.proofs.FreeLemmas.{pushed_leaves}
+use Rattle.ng_space.proofs.LeavingSlots.{pushed_leaves}
 use Rattle.ng_heap.proofs.heap.Heap.settle_in.Goals as goal
 
 pub returns-clause-leaves : goal.returns-clause-leaves

@@ -3,8 +3,10 @@ use Rattle.ng_view.specs.Steps.{regiven}
 use Rattle.ng_view.specs.Views.{numbered}
 use Rattle.ng_space.specs.Blocks.{BlockToken, HasBlock, IsReady, OfSlot, Serves}
 use Rattle.ng_space.specs.Callers.{Caller}
+use Rattle.ng_space.specs.Leaving.{Leaves}
 use Rattle.ng_space.proofs.Entering.{one_number}
 use Rattle.ng_space.proofs.Granting.{regiven_block, regives_block}
+use Rattle.ng_space.proofs.LeavingFrames.{leaves_regiven}
 use Rattle.ng_space.proofs.space.Space.regive.Goals as goal
 
 pub header_told-requires-clause-may : goal.header_told-requires-clause-may
@@ -22,3 +24,11 @@ returns-clause-has g c =
     regiven_block c.args.hand.now _ _ c.args.n c.number-number.result c.header-header.result has (c.push.ensures.number ∙ ap (λ (hand : Caller). hand.number) hand)
     (c.header_told.ensures.told ∙ ap (λ (hand : Caller). regiven hand.view slot.meta slot.index at c.args.n c.number-number.result c.header-header.result) hand)
     header.token.few header.token.whole header.token.first (let from = ready.from in let start = has.place.start in omega arith) ready header.value
+
+pub returns-clause-leaves : goal.returns-clause-leaves
+returns-clause-leaves g c =
+    let slot = c.block.inside.slot in let at = c.block.inside.at in
+    subst (λ (block : BlockToken). Leaves block.slot c.args.hand.now.view c.header_told.new.seat.me.0) c.block.view_is
+    (leaves_regiven c.args.hand.now _ _ c.args.n c.number-number.result c.header-header.result (subst (HasBlock c.args.hand.now) (sym c.block.view_is) c.requires.block)
+    (c.header_told.ensures.told ∙ ap (λ (hand : Caller). regiven hand.view slot.meta slot.index at c.args.n c.number-number.result c.header-header.result) c.hand.view_is)
+    (returns-clause-has g c))

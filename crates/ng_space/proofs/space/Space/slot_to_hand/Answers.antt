@@ -1,10 +1,15 @@
-use Rattle.std.proofs.Common.{ap, sym, subst, refl}
+use Rattle.std.proofs.Common.{ap, ◌∙◌, sym, subst, refl}
+use Rattle.ng_rule.proofs.geometry.Lists.{find_among}
+use Rattle.ng_view.specs.Lists.{is_at}
+use Rattle.ng_view.specs.Steps.{with_held}
+use Rattle.ng_space.specs.Callers.{Caller}
 use Rattle.ng_rule.proofs.hand.Passing.{merge_hand}
 use Rattle.ng_view.specs.declared.view.View.{View}
 use Rattle.ng_space.specs.Masks.{HasFree}
-use Rattle.ng_space.specs.Passed.{HasInMotion}
+use Rattle.ng_space.specs.Passed.{HasInMotion, with_slot}
 use Rattle.ng_space.proofs.Locked.{lock_stays}
 use Rattle.ng_space.proofs.Passed.{one_book, cut_to_hand, passed_free, still-without}
+use Rattle.ng_space.proofs.LeavingSlots.{leaves_passed}
 use Rattle.ng_space.proofs.space.Space.slot_to_hand.Goals as goal
 
 pub pass_slot-requires-clause-merge : goal.pass_slot-requires-clause-merge
@@ -24,3 +29,13 @@ invariant_of-seat g c =
     let lock = c.pass_slot.ensures.lock in
     lock_stays _ _ _ _ _ _ c.seat.invariant c.pass_slot.ensures.tables.0 (ap (λ me. me.1) lock) (ap (λ me. me.0) lock)
     (record { leads = refl; parcel = refl; books = refl; sent = refl; taken = refl; next = refl; still = still-without c.args.meta c.args.index c.seat.inside.seat.me.0.held })
+
+pub returns-clause-leaves : goal.returns-clause-leaves
+returns-clause-leaves g c =
+    let lock = c.seat.inside.seat.me.0 in
+    let slot = subst (λ (v : View). HasInMotion v c.args.meta c.args.index) (sym c.seat.view_is) c.requires.slot in
+    let there = find_among c.args.meta c.args.index lock.held slot.slot slot.found in
+    let at = c.slot_at.ensures in
+    leaves_passed c.slot_at.result c.args.hand.now.view c.pass_slot.new.own.me.0 c.slot_at.new.hand.view slot.slot c.args.meta
+    (ap (λ me. me.0) c.pass_slot.ensures.own ∙ ap (with_slot c.hand.inside.seat.me.0) slot.found ∙ ap (λ (hand : Caller). with_held hand.view slot.slot) c.hand.view_is)
+    ((λ t. is_at (at.meta t) (at.index t) slot.slot.place) ∙ there.1) (c.seat.invariant.moving slot.slot there.0) at.view
