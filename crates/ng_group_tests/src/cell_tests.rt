@@ -1,5 +1,5 @@
 // What the core stores that no clause tells: the cells are read by a hand.
-ghost use Rattle.std.specs.Prelude.{◌≡◌, ◌∷◌, []};
+ghost use Rattle.std.specs.Prelude.{◌≡◌, ◌∷◌, [], length};
 ghost use Rattle.ng_group.specs.Hands.{IsApart};
 ghost use Rattle.ng_group.specs.Tests.{AreParts};
 ghost use Rattle.ng_space.specs.Tokens.{HasSlot, Token};
@@ -34,6 +34,8 @@ fn nest_twice<N: Name, P: Rules + Drop, R: Abort>(
 ) -> Result<(), Fail>
     requires table { blank.table ≡ N.facts.table }
     requires start { blank.start ≡ N.facts.start }
+    requires hands { length blank.rooms ≡ N.facts.hands }
+    requires most { N.facts.most ≡ 0 }
     requires parts { AreParts blank tables mapper }
     requires rooms { blank.rooms ≡ 4 ∷ [] }
     requires good { P.good rules }
@@ -90,6 +92,8 @@ fn raise_once<N: Name, P: Rules + Drop, R: Abort>(
 ) -> Result<(), Fail>
     requires table { blank.table ≡ N.facts.table }
     requires start { blank.start ≡ N.facts.start }
+    requires hands { length blank.rooms ≡ N.facts.hands }
+    requires most { N.facts.most ≡ 0 }
     requires parts { AreParts blank tables mapper }
     requires rooms { blank.rooms ≡ 4 ∷ [] }
     requires good { P.good rules }
