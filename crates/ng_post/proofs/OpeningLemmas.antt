@@ -1,17 +1,16 @@
 -- Doors that have just been opened.
-use Rattle.std.proofs.Common.{◌≡◌, ◌≢◌, ◌∙◌, ◌+◌, ◌<◌, ◌≤◌, ◌∷◌, [], ℕ, zero, suc, List, Bool, true, false, ap, arith, get_or, leb, length, length-set, map, refl, rules, set, subst, sym, Global, Vec}
+use Rattle.std.proofs.Common.{◌≡◌, ◌≢◌, ◌∙◌, ◌+◌, ◌<◌, [], ℕ, List, true, false, ap, arith, get_or, leb, length, length-set, refl, set, subst, sym, Global, Vec}
 use Rattle.std.specs.Prelude.{vec_len}
-use Rattle.std.specs.List.{All}
 use Rattle.std.proofs.lemmas.Bool.Decides.{nat_tests}
 use Rattle.std.proofs.lemmas.List.Sorted.{IsPermutation-refl}
-use Rattle.crossbeam_queue.specs.Passes.{Pass, view}
+use Rattle.crossbeam_queue.specs.Passes.{Pass}
 use Rattle.ng_post.specs.declared.boxes.Boxes.{Boxes}
 use Rattle.ng_post.specs.declared.boxes.Door.{Door}
 use Rattle.ng_post.specs.declared.mail.Letter.{Letter}
 use Rattle.ng_post.specs.declared.view.View.{View}
-use Rattle.ng_post.specs.Box.{leader, reader, sender}
-use Rattle.ng_post.specs.Doors.{AreDoorsOf, AreLeads, IsDoorOf, sent_to}
-use Rattle.ng_post.specs.Letters.{Note, Pair, pair_of}
+use Rattle.ng_post.specs.Box.{leader}
+use Rattle.ng_post.specs.Doors.{AreLeads, IsDoorOf}
+use Rattle.ng_post.specs.Letters.{Pair}
 use Rattle.ng_post.specs.Opened.{AreOpened, IsFresh, received_by}
 use Rattle.ng_post.specs.Opening.{AreLeadsAfter, AreNewBoxes, AreNewDoors, IsNewDoor}
 use Rattle.ng_post.proofs.Rows.{each-set}
@@ -58,7 +57,7 @@ opened {N} plan boxes doors door leads made new_boxes new some is leading =
     let first : Door N = record door { leads = leads } in
     let was_new : IsNewDoor boxes 0 door = subst (λ x. IsNewDoor boxes 0 x) (sym is) (new.each 0 door (omega (arith, new.count, some))) in
     let was_fresh : IsFresh door (length (get_or plan.logs 0 [])) (received_by boxes.receivers.items 0) =
-        subst (λ x. IsFresh x (length (get_or plan.logs 0 [])) (received_by boxes.receivers.items 0)) (sym is) (new.fresh 0 door (omega (arith, new.count, some))) in
+    subst (λ x. IsFresh x (length (get_or plan.logs 0 [])) (received_by boxes.receivers.items 0)) (sym is) (new.fresh 0 door (omega (arith, new.count, some))) in
     let first_new : IsNewDoor boxes 0 first = record { log_is = was_new.log_is; ways = was_new.ways; own = was_new.own; reads = was_new.reads } in
     let first_fresh : IsFresh first (length (get_or plan.logs 0 [])) (received_by boxes.receivers.items 0) = record {
       sent = was_fresh.sent;

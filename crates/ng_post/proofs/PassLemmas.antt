@@ -1,8 +1,8 @@
 -- Passes stay those of their boxes through a call on one of them.
-use Rattle.std.proofs.Common.{◌≡◌, ◌≢◌, ◌∙◌, ◌+◌, ◌<◌, ◌≤◌, ◌∷◌, ◌++◌, [], ℕ, List, arith, get_or, length, set, subst, sym}
+use Rattle.std.proofs.Common.{◌≡◌, ◌∙◌, ◌+◌, ◌<◌, ◌∷◌, ◌++◌, [], ℕ, List, arith, get_or, length, set, subst, sym}
 use Rattle.std.proofs.lemmas.List.{get_or_default}
 use Rattle.std.specs.Prelude.{Option}
-use Rattle.crossbeam_queue.specs.Passes.{IsPassOf, IsSamePass, Pass, view}
+use Rattle.crossbeam_queue.specs.Passes.{IsPassOf, IsSamePass, Pass}
 use Rattle.crossbeam_queue.specs.declared.array_queue.Doing.{Doing}
 use Rattle.crossbeam_queue.specs.declared.array_queue.Slotted.{Slotted}
 use Rattle.ng_post.proofs.Rows.{each-pushed, each-set}
@@ -13,8 +13,8 @@ pub passes-set : {T V Q A : Type 0} (boxes : List (Slotted (Option T) (Doing T V
     → (i : ℕ) (q : Slotted (Option T) (Doing T V) Q A) (p : Pass T V) → i < n → IsPassOf (get_or boxes i q) (get_or (set leads k new) i p)
 passes-set {T} {V} {Q} {A} boxes leads k n old new lt long is same before i q p within =
     let now : (s : Slotted (Option T) (Doing T V) Q A) → IsPassOf (get_or boxes k s) new = λ s.
-        let was : IsPassOf (get_or boxes k s) old = subst (λ x. IsPassOf (get_or boxes k s) x) (sym is) (before k s old lt) in
-        (same.0 ∙ was.0, same.2 ∙ was.1) in
+    let was : IsPassOf (get_or boxes k s) old = subst (λ x. IsPassOf (get_or boxes k s) x) (sym is) (before k s old lt) in
+    (same.0 ∙ was.0, same.2 ∙ was.1) in
     each-set (λ j x. (s : Slotted (Option T) (Doing T V) Q A) → IsPassOf (get_or boxes j s) x) leads k new (omega (arith, long, lt)) now
     (λ j x inside apart s. before j s x (omega (arith, long, inside))) i p (omega (arith, long, within)) q
 
@@ -25,7 +25,7 @@ pub passes-pushed : {T V Q A : Type 0} (boxes : List (Slotted (Option T) (Doing 
     → (i : ℕ) (q : Slotted (Option T) (Doing T V) Q A) (p : Pass T V) → i < n + 1 → IsPassOf (get_or boxes i q) (get_or (ways ++ way ∷ []) i p)
 passes-pushed {T} {V} {Q} {A} boxes ways n queue way long within is fits before i q p lt =
     let last : (s : Slotted (Option T) (Doing T V) Q A) → IsPassOf (get_or boxes n s) way = λ s.
-        subst (λ x. IsPassOf x way) (is ∙ get_or_default boxes n queue s within) fits in
+    subst (λ x. IsPassOf x way) (is ∙ get_or_default boxes n queue s within) fits in
     each-pushed (λ j a b. (s : Slotted (Option T) (Doing T V) Q A) → IsPassOf (get_or boxes j s) a) ways ways way way n long long
     (λ j a b below s. before j s a below) last i p p lt q
 

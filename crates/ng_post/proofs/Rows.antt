@@ -1,5 +1,5 @@
 -- What holds of each place of a list after a push and after a set.
-use Rattle.std.proofs.Common.{◌≡◌, ◌≢◌, ℕ, zero, suc, ◌+◌, ◌<◌, List, [], ◌∷◌, ◌++◌, length, length-append, length-drop, drop, get_or, set, refl, sym, subst, ap, ◌∙◌, ⊎_elim, arith}
+use Rattle.std.proofs.Common.{◌≡◌, ◌≢◌, ℕ, suc, ◌+◌, ◌<◌, List, [], ◌∷◌, ◌++◌, length, length-append, length-drop, drop, get_or, set, refl, sym, ap, ◌∙◌, ⊎_elim, arith}
 use Rattle.std.proofs.lemmas.List.{get_or_append_left, get_or_default, get_or-set_other, get_or-set_same, length_push}
 use Rattle.ng_post.proofs.BoxLemmas.{last_of, same_or_not}
 
@@ -9,12 +9,12 @@ pub each-pushed : {A B : Type 0} (P : ℕ → A → B → Type 0) (xs : List A) 
     → (i : ℕ) (a : A) (b : B) → i < n + 1 → P i (get_or (xs ++ x ∷ []) i a) (get_or (ys ++ y ∷ []) i b)
 each-pushed P xs ys x y n long long' before last i a b lt = ⊎_elim
     (λ (here : i ≡ n).
-        let left : get_or (xs ++ x ∷ []) i a ≡ x = ap (λ k. get_or (xs ++ x ∷ []) k a) (here ∙ sym long) ∙ last_of xs x a in
-        let right : get_or (ys ++ y ∷ []) i b ≡ y = ap (λ k. get_or (ys ++ y ∷ []) k b) (here ∙ sym long') ∙ last_of ys y b in
-        rw (left, right, here) last)
+    let left : get_or (xs ++ x ∷ []) i a ≡ x = ap (λ k. get_or (xs ++ x ∷ []) k a) (here ∙ sym long) ∙ last_of xs x a in
+    let right : get_or (ys ++ y ∷ []) i b ≡ y = ap (λ k. get_or (ys ++ y ∷ []) k b) (here ∙ sym long') ∙ last_of ys y b in
+    rw (left, right, here) last)
     (λ (apart : i ≢ n).
-        rw (get_or_append_left xs (x ∷ []) a i (omega (arith, apart)), get_or_append_left ys (y ∷ []) b i (omega (arith, apart)))
-        (before i a b (omega (arith, apart))))
+    rw (get_or_append_left xs (x ∷ []) a i (omega (arith, apart)), get_or_append_left ys (y ∷ []) b i (omega (arith, apart)))
+    (before i a b (omega (arith, apart))))
     (same_or_not i n)
 
 -- of one list, once an item was set

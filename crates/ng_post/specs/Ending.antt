@@ -1,5 +1,5 @@
 -- Doors that are being ended. No public clause cites this module.
-use Rattle.std.specs.Prelude.{◌≡◌, ℕ, ◌<◌, ◌==◌, ◌++◌, ◌∷◌, [], true, false, List, if◌then◌else◌, length, map, nat_lt, slice_index_or, take, vec_len}
+use Rattle.std.specs.Prelude.{◌≡◌, ℕ, ◌<◌, ◌==◌, ◌++◌, ◌∷◌, [], true, List, if◌then◌else◌, length, map, nat_lt, slice_index_or, take, vec_len}
 use Rattle.crossbeam_queue.specs.Passes.{IsPassOf, Pass, view}
 use Rattle.ng_post.specs.declared.boxes.Boxes.{Boxes}
 use Rattle.ng_post.specs.declared.boxes.Door.{Door}
@@ -7,7 +7,7 @@ use Rattle.ng_post.specs.declared.mail.Letter.{Letter}
 use Rattle.ng_post.specs.declared.view.View.{View}
 use Rattle.ng_post.specs.Box.{AreAllOf, leader}
 use Rattle.ng_post.specs.Doors.{sent_to}
-use Rattle.ng_post.specs.Letters.{Note, Pair, note_of}
+use Rattle.ng_post.specs.Letters.{Note, note_of}
 
 -- what the pass that leads at the box knows once so many doors have ended
 abbrev pub ended_at : {N : Type 0} → Boxes N → List (Door N) → ℕ → ℕ → List Note → View
@@ -18,9 +18,9 @@ ended_at boxes doors ended box got =
 pub record HaveEnded {N : Type 0} (boxes : Boxes N) (doors : List (Door N)) (ended : ℕ) (leads : List (Pass (Letter N) View)) : Type 0 where
   pub count : length leads ≡ vec_len boxes.boxes
   pub passes : (b : ℕ) (q : _) (p : _) → b < vec_len boxes.boxes → IsPassOf (slice_index_or boxes.boxes.items b q) (slice_index_or leads b p)
-  pub knows : (b : ℕ) (p : _) (d : Door N) → b < vec_len boxes.boxes
-      → view (slice_index_or leads b p)
-      ≡ ended_at boxes doors ended b (if nat_lt b ended then (view (slice_index_or doors b d).own).got else [])
+  pub knows : (b : ℕ) (p : _) → b < vec_len boxes.boxes → view (slice_index_or leads b p) ≡ ended_at boxes doors ended b (view (slice_index_or leads b p)).got
+  pub got : (b : ℕ) (p : _) (d : Door N) → b < vec_len boxes.boxes → b < ended
+      → (view (slice_index_or leads b p)).got ≡ (view (slice_index_or doors b d).own).got
 
 -- the pass that leads at the box may take the log's passes in
 pub record LeadsTo (count log box : ℕ) (v : View) : Type 0 where
@@ -66,4 +66,4 @@ pub record MayLearn {N : Type 0} (boxes : Boxes N) (leads : List (Pass (Letter N
 abbrev pub AreLearned : {N : Type 0} → Boxes N → List (Pass (Letter N) View) → Type 0
 AreLearned {N} boxes leads = (b : ℕ) (p : Pass (Letter N) View) → b < vec_len boxes.boxes
     → (items : List (Letter N)) × (length (view (slice_index_or leads b p)).known ≡ (view (slice_index_or leads b p)).made
-      → AreAllOf (view (slice_index_or leads b p)).known ((view (slice_index_or leads b p)).got ++ map note_of items))
+    → AreAllOf (view (slice_index_or leads b p)).known ((view (slice_index_or leads b p)).got ++ map note_of items))

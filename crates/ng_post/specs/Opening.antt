@@ -1,5 +1,5 @@
 -- Boxes and doors that are being opened. No public clause cites this module.
-use Rattle.std.specs.Prelude.{◌≡◌, ℕ, ◌<◌, ◌≤◌, List, [], length, max, nat_le, slice_index_or, vec_len}
+use Rattle.std.specs.Prelude.{◌≡◌, ℕ, ◌<◌, List, [], length, max, nat_le, slice_index_or, vec_len}
 use Rattle.crossbeam_queue.specs.Passes.{IsPassOf, Pass, ruled_capacity, view}
 use Rattle.ng_post.specs.declared.boxes.Boxes.{Boxes}
 use Rattle.ng_post.specs.declared.boxes.Door.{Door}

@@ -21,10 +21,7 @@ pub fn open<N: Name>(alloc: Global, plan: &Plan) -> Result<(Boxes<N>, Vec<Door<N
     }
 }
 
-fn open_all<N: Name>(
-    alloc: Global,
-    plan: &Plan,
-) -> Result<(Boxes<N>, Vec<Door<N>>), AllocError>
+fn open_all<N: Name>(alloc: Global, plan: &Plan) -> Result<(Boxes<N>, Vec<Door<N>>), AllocError>
     requires few { length plan.now.logs ≤ 16 }
     requires receivers { All (λ log. log < length plan.now.logs) plan.now.receivers }
     ensures { IfOk result (λ (boxes, doors). AreOpened plan.now boxes doors.items) }
@@ -38,10 +35,7 @@ fn open_all<N: Name>(
 }
 
 /// Makes a box for each log, with the pass that leads.
-fn open_boxes<N: Name>(
-    alloc: Global,
-    plan: &Plan,
-) -> Result<(Boxes<N>, Vec<Key<N>>), AllocError>
+fn open_boxes<N: Name>(alloc: Global, plan: &Plan) -> Result<(Boxes<N>, Vec<Key<N>>), AllocError>
     requires few { length plan.now.logs ≤ 16 }
     requires receivers { All (λ log. log < length plan.now.logs) plan.now.receivers }
     ensures { IfOk result (λ (boxes, leads). AreNewBoxes plan.now boxes leads.items) }

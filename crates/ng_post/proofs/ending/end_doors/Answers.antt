@@ -1,4 +1,4 @@
-use Rattle.std.proofs.Common.{◌≡◌, ◌∙◌, ◌+◌, ◌<◌, ◌∷◌, ◌++◌, ℕ, List, [], ap, append-nil, append_assoc, arith, drop, get_or, length, length-drop, refl, rules, subst, sym}
+use Rattle.std.proofs.Common.{◌≡◌, ◌∙◌, ◌+◌, ◌∷◌, ◌++◌, List, [], ap, append-nil, append_assoc, arith, drop, length, length-drop, refl, rules, subst, sym}
 use Rattle.std.proofs.lemmas.List.{length_push}
 use Rattle.std.specs.Vec.Iter.{into_iter_items}
 use Rattle.ng_post.specs.declared.boxes.Door.{Door}
@@ -14,8 +14,8 @@ end_passes-requires g c =
     let door : Door g.row.N.Denot = c.remove-log.result in
     let are = c.requires.doors in
     let leads : AreLeads boxes door.leads.items =
-        (subst (λ x. IsDoorOf boxes x) (sym c.remove-log.ensures.value) (are.each 0 door c.requires.some)).leads
-        (ap (λ (x : Door g.row.N.Denot). x.log) c.remove-log.ensures.value ∙ are.logs 0 door c.requires.some) in
+    (subst (λ x. IsDoorOf boxes x) (sym c.remove-log.ensures.value) (are.each 0 door c.requires.some)).leads
+    (ap (λ (x : Door g.row.N.Denot). x.log) c.remove-log.ensures.value ∙ are.logs 0 door c.requires.some) in
     may_end boxes c.args.doors.items 0 door door.leads.items are (none_ended boxes c.args.doors.items door.leads.items leads) c.requires.some c.remove-log.ensures.value
 
 pub loop-door-init : goal.loop-door-init
@@ -24,8 +24,8 @@ loop-door-init g c =
     let door : Door g.row.N.Denot = c.remove-log.result in
     let are = c.requires.doors in
     let leads : AreLeads boxes door.leads.items =
-        (subst (λ x. IsDoorOf boxes x) (sym c.remove-log.ensures.value) (are.each 0 door c.requires.some)).leads
-        (ap (λ (x : Door g.row.N.Denot). x.log) c.remove-log.ensures.value ∙ are.logs 0 door c.requires.some) in
+    (subst (λ x. IsDoorOf boxes x) (sym c.remove-log.ensures.value) (are.each 0 door c.requires.some)).leads
+    (ap (λ (x : Door g.row.N.Denot). x.log) c.remove-log.ensures.value ∙ are.logs 0 door c.requires.some) in
     record {
       all = c.into_iter-door-iterator.ensures.into_iter_gives.0 ∙ c.remove-log.ensures.by_index.2;
       count = search rules;
@@ -38,7 +38,7 @@ end_passes-requires-in-loop-door g c =
     let was = c.loop-door.invariant in
     let door : Door g.row.N.Denot = c.in-Some.door in
     let next = next_item c.loop-door.yielded door (into_iter_items c.next.new.self) c.args.doors.items
-        (ap (λ l. c.loop-door.yielded ++ l) (sym c.in-Some.ensures.steps.0) ∙ was.all) in
+    (ap (λ l. c.loop-door.yielded ++ l) (sym c.in-Some.ensures.steps.0) ∙ was.all) in
     may_end c.args.boxes.now c.args.doors.items (length c.loop-door.yielded + 1) door c.loop-door.leads.items c.requires.doors was.ended next.1 next.0
 
 pub loop-door-preserved : goal.loop-door-preserved

@@ -1,9 +1,8 @@
-use Rattle.std.proofs.Common.{◌≡◌, ◌∙◌, ◌+◌, ◌<◌, ◌≤◌, ◌∷◌, ◌++◌, ℕ, List, [], ap, arith, get_or, length, length-set, refl, rules, subst, sym, true, false}
+use Rattle.std.proofs.Common.{◌≡◌, ◌∙◌, ◌+◌, ◌<◌, ◌≤◌, List, ap, arith, get_or, length, length-set, refl, subst, sym, true, false}
 use Rattle.std.proofs.lemmas.List.{get_or_default, length_push}
 use Rattle.crossbeam_queue.specs.Passes.{IsPassOf, Pass, view}
 use Rattle.ng_post.specs.declared.mail.Letter.{Letter}
 use Rattle.ng_post.specs.declared.view.View.{View}
-use Rattle.ng_post.specs.Box.{leader}
 use Rattle.ng_post.specs.Ending.{with_reader, with_sender}
 use Rattle.ng_post.proofs.BoxLemmas.{merges, merges_reader}
 use Rattle.ng_post.proofs.EndingLemmas.{ltb-not_below, with_reader-else, with_reader-here, with_reader-rest}
@@ -17,7 +16,7 @@ absorb-requires-clause-rule g c =
     let key : Pass (Letter g.row.N.Denot) View = c.index_mut.result.now in
     let leads = c.requires.leads_each log key c.requires.log_in in
     let idle : (view key).gets ≡ false =
-        ap (λ (p : Pass (Letter g.row.N.Denot) View). (view p).gets) c.index_mut.ensures.value ∙ ap (λ (v : View). v.gets) leads.leads ∙ ltb-not_below log log (omega arith) in
+    ap (λ (p : Pass (Letter g.row.N.Denot) View). (view p).gets) c.index_mut.ensures.value ∙ ap (λ (v : View). v.gets) leads.leads ∙ ltb-not_below log log (omega arith) in
     merges_reader key.id (view key) c.args.own.id (view c.args.own) idle c.requires.gets
 
 pub loop-key-init : goal.loop-key-init
@@ -29,9 +28,9 @@ loop-key-init g c =
     let new : Pass (Letter g.row.N.Denot) View = c.absorb.new.pass in
     let inside : log < length leads = omega (arith, c.requires.count, c.requires.log_in) in
     let knows : (w : Pass (Letter g.row.N.Denot) View) → view new ≡ with_reader log (view c.args.own) log (view (get_or leads log w)) = λ w.
-        c.absorb.ensures.rule
-        ∙ ap (λ (p : Pass (Letter g.row.N.Denot) View). record (view p) { gets = true; got = (view c.args.own).got }) (c.index_mut.ensures.value ∙ get_or_default leads log key w inside)
-        ∙ sym (with_reader-here log (view c.args.own) log (view (get_or leads log w)) refl) in
+    c.absorb.ensures.rule
+    ∙ ap (λ (p : Pass (Letter g.row.N.Denot) View). record (view p) { gets = true; got = (view c.args.own).got }) (c.index_mut.ensures.value ∙ get_or_default leads log key w inside)
+    ∙ sym (with_reader-here log (view c.args.own) log (view (get_or leads log w)) refl) in
     record {
       count = length-set leads log new ∙ c.requires.count;
       few = omega (arith, c.requires.ways);
@@ -97,9 +96,9 @@ loop-key-preserved g c =
     let own : View = view c.args.own in
     let in_leads : b < length leads = omega (arith, was.count, inside) in
     let knows : (way w : Pass (Letter g.row.N.Denot) View) → view new ≡ with_sender (view (get_or c.args.to.items b way)) (with_reader c.args.log own b (view (get_or c.args.leads.now.items b w))) = λ way w.
-        c.absorb-in-Some.ensures.rule
-        ∙ ap (with_sender (view key)) (ap view c.index_mut-in-Some.ensures.value ∙ was.left b lead w (omega (arith, b_is, long)))
-        ∙ ap (λ (p : Pass (Letter g.row.N.Denot) View). with_sender (view p) (with_reader c.args.log own b (view (get_or c.args.leads.now.items b w)))) (key_is way) in
+    c.absorb-in-Some.ensures.rule
+    ∙ ap (with_sender (view key)) (ap view c.index_mut-in-Some.ensures.value ∙ was.left b lead w (omega (arith, b_is, long)))
+    ∙ ap (λ (p : Pass (Letter g.row.N.Denot) View). with_sender (view p) (with_reader c.args.log own b (view (get_or c.args.leads.now.items b w)))) (key_is way) in
     record {
       count = length-set leads b new ∙ was.count;
       few = omega (arith, was.few, long);
@@ -107,12 +106,12 @@ loop-key-preserved g c =
           each-popped left key i t u lt ∙ ap (λ (l : List (Pass (Letter g.row.N.Denot) View)). get_or l i u) (sym c.in-Some.ensures.items) ∙ was.rest i u u (omega (arith, long));
       passes = passes-set boxes.items leads b boxes.len lead new inside was.count c.index_mut-in-Some.ensures.value c.absorb-in-Some.ensures.queue was.passes;
       done = λ i p way w le lt. each-set (λ j (x : Pass (Letter g.row.N.Denot) View). (s u : Pass (Letter g.row.N.Denot) View) → b ≤ j
-            → view x ≡ with_sender (view (get_or c.args.to.items j s)) (with_reader c.args.log own j (view (get_or c.args.leads.now.items j u)))) leads b new in_leads
+          → view x ≡ with_sender (view (get_or c.args.to.items j s)) (with_reader c.args.log own j (view (get_or c.args.leads.now.items j u)))) leads b new in_leads
           (λ s u _. knows s u)
           (λ j x within apart s u above. was.done j x s u (omega (arith, long, b_is, apart)) (omega (arith, was.count)))
           i p (omega (arith, was.count)) way w (omega (arith, b_is));
       left = λ i p w lt. each-set (λ j (x : Pass (Letter g.row.N.Denot) View). (u : Pass (Letter g.row.N.Denot) View) → j < b
-            → view x ≡ with_reader c.args.log own j (view (get_or c.args.leads.now.items j u))) leads b new in_leads
+          → view x ≡ with_reader c.args.log own j (view (get_or c.args.leads.now.items j u))) leads b new in_leads
           (λ u under. absurd (omega arith))
           (λ j x within apart u under. was.left j x u (omega (arith, long, b_is)))
           i p (omega (arith, b_is, in_leads)) w (omega (arith, b_is));

@@ -1,4 +1,4 @@
-use Rattle.std.proofs.Common.{◌≡◌, ◌∙◌, ◌+◌, ◌<◌, ◌++◌, ℕ, List, ap, arith, get_or, length, length-set, map, refl, rules, subst, sym, ⊎_elim}
+use Rattle.std.proofs.Common.{◌≡◌, ◌∙◌, ◌<◌, ◌++◌, List, ap, arith, get_or, length, length-set, map, refl, subst, sym, ⊎_elim}
 use Rattle.std.proofs.lemmas.List.{get_or_default}
 use Rattle.crossbeam_queue.specs.Passes.{Pass, view}
 use Rattle.ng_post.specs.declared.mail.Letter.{Letter}

@@ -14,5 +14,5 @@ invariant-loop-b g l = record {
   same : (b : ℕ) (p o : _) → b < vec_len l.boxes.boxes → view (get_or l.leads.items b p) ≡ view (get_or l.initial.leads.items b o);
   learned : (b : ℕ) (p : _) → b < l.b
       → (items : List (Letter g.row.N.Denot)) × (length (view (get_or l.initial.leads.items b p)).known ≡ (view (get_or l.initial.leads.items b p)).made
-        → AreAllOf (view (get_or l.initial.leads.items b p)).known ((view (get_or l.initial.leads.items b p)).got ++ map note_of items));
+      → AreAllOf (view (get_or l.initial.leads.items b p)).known ((view (get_or l.initial.leads.items b p)).got ++ map note_of items));
 }

@@ -1,4 +1,4 @@
-use Rattle.std.proofs.Common.{◌≡◌, ◌∙◌, ◌+◌, ◌<◌, ℕ, [], ap, arith, false, length, length-set, refl, rules, sym}
+use Rattle.std.proofs.Common.{◌≡◌, ◌∙◌, ◌+◌, [], ap, arith, false, length-set}
 use Rattle.std.specs.Prelude.{nat_le}
 use Rattle.crossbeam_queue.specs.Passes.{Pass, view}
 use Rattle.ng_post.specs.declared.mail.Letter.{Letter}
@@ -26,7 +26,7 @@ open_ways-requires g c =
     let new : Pass (Letter g.row.N.Denot) View = c.another-own.new.pass in
     let knew : view key ≡ leader log (nat_le log log) [] [] = ap view c.index_mut.ensures.value ∙ was.knows log key c.requires.log in
     let knows : view new ≡ leader log (nat_le (log + 1) log) [] [] =
-        rw (leb-above (log + 1) log (omega arith)) (c.another-own.ensures.rule.0 ∙ ap (λ (v : View). record v { gets = false; got = [] }) knew) in
+    rw (leb-above (log + 1) log (omega arith)) (c.another-own.ensures.rule.0 ∙ ap (λ (v : View). record v { gets = false; got = [] }) knew) in
     record {
       leads = record {
         count = length-set leads log new ∙ was.count;

@@ -1,4 +1,4 @@
-use Rattle.std.proofs.Common.{◌≡◌, ◌∙◌, ◌+◌, ◌<◌, ℕ, List, [], ap, arith, get_or, length, refl, rules, subst, sym}
+use Rattle.std.proofs.Common.{◌≡◌, ◌∙◌, ◌+◌, List, [], ap, arith, get_or, length, rules, subst}
 use Rattle.std.proofs.lemmas.List.{get_or_default, length_push}
 use Rattle.ng_post.specs.declared.boxes.Door.{Door}
 use Rattle.ng_post.specs.Opened.{IsFresh, received_by}
@@ -15,9 +15,9 @@ loop-log-preserved g c =
     let door : Door g.row.N.Denot = c.in_ok-door.door in
     let receivers = c.args.boxes.now.receivers.items in
     let ops : c.len-in-loop-log.result ≡ length (get_or c.args.plan.now.logs log []) =
-        c.len-in-loop-log.ensures
-        ∙ ap length (c.ops-item.is ∙ ap (λ (l : List (List Op)). get_or l log c.ops-item.result) c.as_slice-ops-items.ensures
-        ∙ get_or_default c.args.plan.now.logs log c.ops-item.result [] (omega (arith, c.loop-log-test.true, ap length c.as_slice-ops-items.ensures))) in
+    c.len-in-loop-log.ensures
+    ∙ ap length (c.ops-item.is ∙ ap (λ (l : List (List Op)). get_or l log c.ops-item.result) c.as_slice-ops-items.ensures
+    ∙ get_or_default c.args.plan.now.logs log c.ops-item.result [] (omega (arith, c.loop-log-test.true, ap length c.as_slice-ops-items.ensures))) in
     record {
       long = rw c.push_reserved.ensures.items (length_push doors door ∙ ap (λ n. n + 1) was.long);
       room = search rules;
