@@ -1,8 +1,8 @@
 -- What holds of a core as it opens and as it closes, and how large the numbers are that the rules are asked.
-use Rattle.std.proofs.Common.{◌≡◌, ℕ, ◌^◌, ◌<◌, ◌≤◌, List, [], Contains, slice_index, length, replicate, refl, sym, ap, subst, ◌∙◌, inl, arith}
+use Rattle.std.proofs.Common.{◌≡◌, ℕ, ◌+◌, ◌^◌, ◌<◌, ◌≤◌, List, [], Contains, slice_index, length, replicate, sum_by, refl, sym, ap, subst, ◌∙◌, inl, arith}
 use Rattle.std.specs.List.{slice_index_or}
 use Rattle.std.proofs.lemmas.List.{get_or-replicate, length-replicate}
-use Rattle.ng_mapper.specs.Mapping.{Span}
+use Rattle.ng_mapper.specs.Mapping.{AreLaid, Span}
 use Rattle.ng_mapper.specs.Runs as mapper
 use Rattle.ng_mapper.specs.declared.refusals.Refusals.{Refusals}
 use Rattle.ng_lists.specs.Rings.{RingTable, ring_of}
@@ -15,10 +15,11 @@ use Rattle.ng_view.specs.Lists.{Among}
 use Rattle.ng_view.specs.declared.view.Start.{Start}
 use Rattle.ng_view.specs.declared.view.View.{View}
 use Rattle.ng_ledger.specs.Rings.{AreRinged, IsIn}
-use Rattle.ng_ledger.specs.Runs.{AreMapped}
+use Rattle.ng_ledger.specs.Runs.{AreMapped, areas_in, pages_of}
 use Rattle.ng_ledger.specs.Standing.{Ledger, Stands}
 use Rattle.ng_ledger.specs.Usage.{AreUsed}
 use Rattle.ng_ledger.proofs.HandLemmas.{blanked}
+use Rattle.ng_ledger.proofs.PageLemmas.{pages_are}
 use Rattle.ng_ledger.proofs.ServedLemmas.{settled}
 use Rattle.ng_ledger.proofs.TableLemmas.{nowhere, tail_in}
 use Rattle.ng_ledger.proofs.UsageLemmas.{bounded}
@@ -63,6 +64,7 @@ module _ (start : Start) (t : RingTable) (empty : t.rings ≡ replicate 48 []) w
 
 mapped_none : (live : List mapper.Run) → live ≡ [] → AreMapped [] live
 mapped_none live none = record {
+  single = λ a. omega arith;
   once = λ r s there. absurd (none_there r there);
   known = λ a pages in'. absurd (none_live live (a, pages) none in');
   mapped = λ r there. absurd (none_there r there);
@@ -129,6 +131,14 @@ pub blanked_at : {M P : Type 0} (start : Start) (span : M → Span) (runs : M �
     → s ≡ s' → Resting start span runs refused s → IsBlanked s'.seat
 blanked_at {M = M} {P = P} start span runs refused {s = s} same rests =
     subst (λ (x : State M P). IsBlanked x.seat) same (blanked start.pages s.seat (free_of s.stock) rests.working.stands.free rests.at_rest)
+
+pub pages_at : {M P : Type 0} (start : Start) (span : M → Span) (runs : M → List mapper.Run) (refused : M → Refusals) {s s' : State M P}
+    → ((m : M) → AreLaid (span m) (runs m)) → s ≡ s' → Resting start span runs refused s
+    → sum_by (λ (run : mapper.Run). run.1) (runs s'.mapper) ≡ areas_in s'.seat.desk.layout.runs + pages_of s'.seat.desk.groups
+pages_at {M = M} {P = P} start span runs refused {s = s} laid same rests =
+    let stands = rests.working.stands in
+    subst (λ (x : State M P). sum_by (λ (run : mapper.Run). run.1) (runs x.mapper) ≡ areas_in x.seat.desk.layout.runs + pages_of x.seat.desk.groups) same
+    (pages_are start.pages (span s.mapper) s.seat.desk.layout.runs s.seat.desk.groups (runs s.mapper) (laid s.mapper) stands.mapped stands.served stands.founded stands.groups)
 
 pub handed_at : {M P : Type 0} (facts : Facts) (span : M → Span) (runs : M → List mapper.Run) (refused : M → Refusals) {s s' : State M P}
     → s ≡ s' → Resting facts.start span runs refused s → IsMostBounded facts (refused s.mapper) → IsHandedBack facts s'.seat (span s'.mapper) (runs s'.mapper) (refused s'.mapper)

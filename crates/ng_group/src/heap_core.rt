@@ -1,6 +1,7 @@
 ghost use Rattle.std.specs.Prelude.{◌≡◌, ◌+◌, ◌*◌, ◌<◌, ◌≤◌, IfErr, IfOk, OnErr, OnOk, slice_get, sum_by};
 ghost use Rattle.ng_mapper.specs.Mapping.{NotesNone};
 ghost use Rattle.ng_class.specs.Class.{units_of};
+ghost use Rattle.ng_ledger.specs.Runs.{areas_in, pages_of};
 ghost use Rattle.ng_lists.specs.Rings.{ring_of};
 ghost use Rattle.ng_policy.specs.Bounce.{no_bounces};
 ghost use Rattle.ng_space.specs.Blocks.{BlockToken, HasBlock};
@@ -201,7 +202,7 @@ impl<N: Name, M: Mapper, P: Rules> Core<N, M, P> {
     }
 
     /// Ends the core: the seat and the mapper come back. Each noted run is an area or that of a live group, and the metas
-    /// without a live group are known to be 0.
+    /// without a live group are known to be 0. The live pages are one for each area, and those of each live group with pages.
     pub fn close(self) -> (LockSeat<N>, M)
     where
         P: Drop,
@@ -209,6 +210,8 @@ impl<N: Name, M: Mapper, P: Rules> Core<N, M, P> {
         ensures mapper { result.1 ≡ self.mapper }
         ensures settled { IsSettled self.seat }
         ensures blanked { IsBlanked self.seat }
+        ensures pages { sum_by (λ run. run.1) (M.runs self.mapper)
+            ≡ areas_in self.seat.desk.layout.runs + pages_of self.seat.desk.groups }
         ensures left { IsHandedBack N.facts self.seat (M.span self.mapper) (M.runs self.mapper) (M.refused self.mapper) }
     {
         let Core { works } = self;

@@ -13,3 +13,5 @@ pub mod MetaLemmas
 pub mod HandLemmas
 pub mod CarrierLemmas
 pub mod FoundedLemmas
+pub mod CountLemmas
+pub mod PageLemmas

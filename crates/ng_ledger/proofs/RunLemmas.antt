@@ -6,17 +6,18 @@ use Rattle.std.proofs.lemmas.List.Sorted.{Contains-permutation, IsPermutation-sy
 use Rattle.std.proofs.lemmas.List.Sums.{get_or-le-sum_by, sum_by-cons}
 use Rattle.ng_view.specs.Notes.{IsNewRun, plain_run}
 use Rattle.ng_rule.proofs.geometry.Bits.{count_of-same, count_of-other}
-use Rattle.ng_rule.proofs.geometry.Lists.{run_stays, run_was}
+use Rattle.ng_rule.proofs.geometry.Lists.{run_stays, run_was, runs_but-none, runs_but-total}
 use Rattle.ng_mapper.specs.Mapping.{AreLaid, IsFree, IsSpan, Span}
 use Rattle.ng_mapper.specs.Runs as mapper
 use Rattle.ng_mapper.proofs.LaidLemmas.{apart-contained, lies-contained}
 use Rattle.ng_view.specs.Layouts.{InArea}
 use Rattle.ng_view.specs.LockSteps.{runs_but}
-use Rattle.ng_view.specs.Lists.{Among, count_of}
+use Rattle.ng_view.specs.Lists.{Among, count_of, total_by}
 use Rattle.ng_view.specs.declared.view.Layout.{Layout}
 use Rattle.ng_view.specs.declared.view.Run.{Run}
 use Rattle.ng_view.specs.declared.view.Start.{Start}
 use Rattle.ng_view.specs.declared.view.View.{View}
+use Rattle.ng_ledger.proofs.CountLemmas.{total_none}
 use Rattle.ng_ledger.proofs.ElementLemmas.{first_or_behind}
 use Rattle.ng_ledger.specs.Runs.{AreMapped, IsNoted}
 
@@ -53,9 +54,21 @@ module _ (span : Span) (noted : List Run) (live : List mapper.Run) (laid : AreLa
       (λ (before : s.addr + 4096 * s.pages ≤ a). omega (arith, lies.some))
       (All-contains (mapper.AreApart (a, p)) live (s.addr, s.pages) free.apart (are.mapped s there))
 
+  -- so at each address one begins at most, where a new one has come
+  single_new : (a p b : ℕ) → IsFree span live (a, p) → count_of (eqb a b) + total_by (λ (r : Run). count_of (eqb r.addr b)) noted ≤ 1
+  single_new a p b free = ⊎_elim
+      (λ (same : a ≡ b).
+      let none : total_by (λ (r : Run). count_of (eqb r.addr b)) noted ≡ 0 =
+      total_none (λ (r : Run). count_of (eqb r.addr b)) noted (λ s there. count_of-other s.addr b (λ e. other_start a p free s there (e ∙ sym same))) in
+      let one : count_of (eqb a b) ≡ 1 = ap (λ n. count_of (eqb n b)) same ∙ count_of-same b in
+      omega arith)
+      (λ (other : a ≢ b). let none : count_of (eqb a b) ≡ 0 = count_of-other a b other in let most = are.single b in omega (arith, none, most))
+      (cases_eq a b)
+
   -- after a map: the run is noted
   pub mapped_new : (live' : List mapper.Run) (a p : ℕ) → IsFree span live (a, p) → mapper.AddsRun live live' (a, p) → AreMapped (plain_run a p ∷ noted) live'
   mapped_new live' a p free adds = record {
+    single = λ b. single_new a p b free;
     once = once;
     known = λ b n there. ⊎_elim
         (λ (e : ◌≡◌ {A = ℕ × ℕ} (b, n) (a, p)). record { run = plain_run a p; there = inl refl; begins = sym (ap (λ (x : ℕ × ℕ). x.0) e); long = sym (ap (λ (x : ℕ × ℕ). x.1) e) })
@@ -90,8 +103,22 @@ module _ (span : Span) (noted : List Run) (live : List mapper.Run) (laid : AreLa
 module _ (noted : List Run) (live : List mapper.Run) (are : AreMapped noted live) where
   -- after a run became an area
   pub mapped_area : (r : Run) → Among r noted → AreMapped (as_area r ∷ runs_but r.addr noted) live
-  mapped_area r there = record { once = once; known = known; mapped = mapped }
+  mapped_area r there = record { single = single; once = once; known = known; mapped = mapped }
     where
+      single : (b : ℕ) → count_of (eqb r.addr b) + total_by (λ (x : Run). count_of (eqb x.addr b)) (runs_but r.addr noted) ≤ 1
+      single b = ⊎_elim
+          (λ (same : r.addr ≡ b).
+          let none : total_by (λ (x : Run). count_of (eqb x.addr b)) (runs_but r.addr noted) ≡ 0 =
+          subst (λ n. total_by (λ (x : Run). count_of (eqb x.addr n)) (runs_but r.addr noted) ≡ 0) same (runs_but-none r.addr noted) in
+          let one : count_of (eqb r.addr b) ≡ 1 = ap (λ n. count_of (eqb n b)) same ∙ count_of-same b in
+          omega arith)
+          (λ (other : r.addr ≢ b).
+          let none : count_of (eqb r.addr b) ≡ 0 = count_of-other r.addr b other in
+          let most = are.single b in
+          let fewer = runs_but-total (λ (x : Run). count_of (eqb x.addr b)) r.addr noted in
+          omega (arith, none, most, fewer))
+          (cases_eq r.addr b)
+
       once : (x y : Run) → Among x (as_area r ∷ runs_but r.addr noted) → Among y (as_area r ∷ runs_but r.addr noted) → x.addr ≡ y.addr → x ≡ y
       once x y (inl e) (inl f) same = e ∙ sym f
       once x y (inl e) (inr t) same = absurd ((run_was r.addr noted y t).1 (sym same ∙ ap (λ (z : Run). z.addr) e))
@@ -125,7 +152,7 @@ module _ (lower upper a : ℕ) where
       omega (arith, sum_by-cons (at a) x xs)
 
   -- of disjoint runs that have pages at most one begins there
-  once_at : (runs : List mapper.Run) → All (mapper.LiesIn lower upper) runs → AllPairs mapper.AreApart runs → sum_by (at a) runs ≤ 1
+  pub once_at : (runs : List mapper.Run) → All (mapper.LiesIn lower upper) runs → AllPairs mapper.AreApart runs → sum_by (at a) runs ≤ 1
   once_at [] lie apart = omega arith
   once_at (x ∷ xs) lie apart = ⊎_elim
       (λ (same : x.0 ≡ a).
@@ -149,8 +176,11 @@ module _ (lower upper a : ℕ) where
 
 -- after an unmap: the run isn't noted
 pub mapped_gone : (span : Span) (noted : List Run) (live live' : List mapper.Run) (r : Run) → AreLaid span live → AreMapped noted live → Among r noted → mapper.RemovesRun live live' (r.addr, r.pages) → AreMapped (runs_but r.addr noted) live'
-mapped_gone span noted live live' r laid are there removes = record { once = once; known = known; mapped = mapped }
+mapped_gone span noted live live' r laid are there removes = record { single = single; once = once; known = known; mapped = mapped }
   where
+    single : (b : ℕ) → total_by (λ (x : Run). count_of (eqb x.addr b)) (runs_but r.addr noted) ≤ 1
+    single b = let most = are.single b in let fewer = runs_but-total (λ (x : Run). count_of (eqb x.addr b)) r.addr noted in omega (arith, most, fewer)
+
     once : (x y : Run) → Among x (runs_but r.addr noted) → Among y (runs_but r.addr noted) → x.addr ≡ y.addr → x ≡ y
     once x y t u same = are.once x y (run_was r.addr noted x t).0 (run_was r.addr noted y u).0 same
 

@@ -10,7 +10,7 @@ use Rattle.ng_view.specs.declared.view.Group.{Group}
 use Rattle.ng_view.specs.declared.view.Run.{Run}
 use Rattle.ng_view.specs.declared.view.View.{View}
 use Rattle.ng_ledger.specs.Groups.{AreGroups}
-use Rattle.ng_ledger.specs.Runs.{AreServed, AreServedBut, HasRun}
+use Rattle.ng_ledger.specs.Runs.{AreServed, AreServedBut, HasRun, IsAreaRun}
 use Rattle.ng_ledger.proofs.GroupLemmas.{group_left, same_group}
 use Rattle.ng_ledger.proofs.RunLemmas.{as_area}
 
@@ -44,9 +44,9 @@ served_new noted gs a p are r (inl e) = inl (ap (λ (x : Run). x.addr) e)
 served_new noted gs a p are r (inr t) = inr (are r t)
 
 -- the run that was left out is an area
-pub served_area : (a : ℕ) (r : Run) (noted : List Run) (gs : List Group) → r.addr ≡ a → AreServedBut a noted gs → AreServed (as_area r ∷ runs_but a noted) gs
-served_area a r noted gs begins are x (inl e) = inl (ap (λ (y : Run). y.area) e)
-served_area a r noted gs begins are x (inr t) =
+pub served_area : (a : ℕ) (r : Run) (noted : List Run) (gs : List Group) → r.addr ≡ a → r.pages ≡ 1 → AreServedBut a noted gs → AreServed (as_area r ∷ runs_but a noted) gs
+served_area a r noted gs begins page are x (inl e) = inl (record { is_area = ap (λ (y : Run). y.area) e; page = ap (λ (y : Run). y.pages) e ∙ page })
+served_area a r noted gs begins page are x (inr t) =
     let was = run_was a noted x t in ⊎_elim (λ is. absurd (was.1 is)) (λ rest. rest) (are x was.0)
 
 -- the run that was left out goes
@@ -83,4 +83,4 @@ module _ (pages : ℕ) (noted : List Run) (gs : List Group) (g : Group) (are : A
 
 -- each run is an area or that of a live group: the space can be closed
 pub settled : (v : View) → AreServed v.desk.layout.runs v.desk.groups → IsSettled v
-settled v are r there = ⊎_elim (λ area. inl area) (λ has. inr (has.group, has.there, has.begins)) (are r there)
+settled v are r there = ⊎_elim (λ (area : IsAreaRun r). inl area.is_area) (λ has. inr (has.group, has.there, has.begins)) (are r there)

@@ -152,7 +152,7 @@ module _ (start : Start) (v w : View) (a : ℕ) (new : IsNewRun start v a 1) (sp
       (blank metas)
 
   served : AreServed (area_run a ∷ v.desk.layout.runs) v.desk.groups
-  served r (inl e) = inl (ap (λ (x : Run). x.area) e)
+  served r (inl e) = inl (record { is_area = ap (λ (x : Run). x.area) e; page = ap (λ (x : Run). x.pages) e })
   served r (inr there) = is.served r there
 
   -- the stock with the new area's metas
