@@ -117,7 +117,6 @@ pub fn work_all<
     plan: &Plan,
     gate: &G,
 )
-    requires some { 0 < length plan.now.logs }
     requires few { length plan.now.logs ≤ 16 }
     requires ready { AreReady boxes.now N.facts.start.cap plan.now workers.old }
     ensures { HaveDone boxes.now plan.now workers.new }
@@ -136,5 +135,5 @@ pub fn work_all<
             worker,
         )
     };
-    thread::for_each_mut(rt, workers, plan.logs.len(), &work);
+    thread::for_each_mut(rt, workers, plan.logs.len().max(1), &work);
 }
