@@ -7,7 +7,9 @@ use Rattle.ng_space.specs.Callers.{Caller, fresh_caller}
 use Rattle.ng_terms.specs.declared.plan.Op.{Op}
 use Rattle.ng_terms.specs.declared.plan.Plan.{Plan}
 use Rattle.ng_replay.specs.Works.{AreDone, MayDo}
+use Rattle.ng_replay.specs.Room.{HaveRoom}
 use Rattle.ng_replay.specs.declared.crew.Crew.{Crew}
+use Rattle.ng_replay.specs.declared.crew.Places.{Places}
 use Rattle.ng_replay.specs.declared.worker.Worker.{Worker}
 
 -- the hands of a crew's workers, and their doors
@@ -24,17 +26,34 @@ pub record HasRoomToWork {N : Type 0} (ops : List Op) (worker : Worker N) : Type
   pub blocks : length ops ≤ vec_capacity worker.row
   pub replies : length ops ≤ vec_capacity worker.replies
 
--- a worker for each log, and room for what the workers leave: their hands, their doors and their replies
+-- nothing that a worker leaves is there yet, and there is room for what so many leave: their hands, doors and replies
+pub record HasRoomFor {N : Type 0} (crew : Crew N) (count : ℕ) : Type 0 where
+  pub no_hands : crew.hands.items ≡ []
+  pub no_doors : crew.doors.items ≡ []
+  pub no_replies : crew.replies.items ≡ []
+  pub hands : count ≤ vec_capacity crew.hands
+  pub doors : count ≤ vec_capacity crew.doors
+  pub replies : count ≤ vec_capacity crew.replies
+
+-- a worker for each log, and room for what they leave
 pub record IsCrewFor {N : Type 0} (crew : Crew N) (plan : Plan) : Type 0 where
   pub count : length crew.workers.items ≡ length plan.logs
   pub each : (log : ℕ) (w : Worker N) → log < length plan.logs
       → HasRoomToWork (slice_index_or plan.logs log []) (slice_index_or crew.workers.items log w)
-  pub no_hands : crew.hands.items ≡ []
-  pub no_doors : crew.doors.items ≡ []
-  pub no_replies : crew.replies.items ≡ []
-  pub hands : length plan.logs ≤ vec_capacity crew.hands
-  pub doors : length plan.logs ≤ vec_capacity crew.doors
-  pub replies : length plan.logs ≤ vec_capacity crew.replies
+  pub ends : HasRoomFor crew (length plan.logs)
+
+-- room for the workers of a plan, and nothing in it
+pub record HavePlaces {N : Type 0} (places : Places N) (plan : Plan) : Type 0 where
+  pub workers : places.workers.items ≡ []
+  pub room : length plan.logs ≤ vec_capacity places.workers
+  pub blocks : length places.blocks.items ≡ length plan.logs
+  pub no_blocks : All (λ row. row.items ≡ []) places.blocks.items
+  pub rows_of_blocks : HaveRoom plan.logs places.blocks.items
+  pub rows : length places.rows.items ≡ length plan.logs
+  pub no_replies : All (λ row. row.items ≡ []) places.rows.items
+  pub rows_of_replies : HaveRoom plan.logs places.rows.items
+  pub none : places.replies.items ≡ []
+  pub replies : length plan.logs ≤ vec_capacity places.replies
 
 -- a worker may begin with the ops of its log: nothing was done by its hand and its door, and there is room for all
 pub record IsReady {N : Type 0} (boxes : Boxes N) (cap : ℕ) (ops : List Op) (log : ℕ) (worker : Worker N) : Type 0 where

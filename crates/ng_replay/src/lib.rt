@@ -9,6 +9,7 @@ mod op;
 mod passing;
 mod room;
 mod source;
+mod threading;
 mod turns;
 mod worker;
 
@@ -17,6 +18,7 @@ pub use gate::{Gate, Open};
 pub use ng_terms::{Made, Mode, Reply};
 pub use op::do_op;
 pub use room::Room;
+pub use threading::threads;
 pub use turns::serial;
 
 #[cfg(test)]

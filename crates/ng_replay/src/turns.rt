@@ -146,7 +146,7 @@ fn leave_blocks<N: Name>(hands: &mut Vec<Hand<N>>, mut blocks: Vec<Vec<Option<Bl
 }
 
 /// Leaves the blocks of a row in a hand.
-fn leave_row<N: Name>(hand: &mut Hand<N>, mut row: Vec<Option<Block<N>>>)
+pub(crate) fn leave_row<N: Name>(hand: &mut Hand<N>, mut row: Vec<Option<Block<N>>>)
     ensures { hand.new ≡ hand.old }
 {
     while let Some(place) = row.pop() {

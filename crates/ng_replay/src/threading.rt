@@ -1,0 +1,88 @@
+ghost use Rattle.std.specs.Prelude.{◌≡◌, ◌≤◌, length, map};
+ghost use Rattle.ng_plan.specs.Sound.{IsSound};
+ghost use Rattle.ng_post.specs.Opened.{AreOpened};
+ghost use Rattle.ng_replay.specs.Books.{AreAllFramed, AreBooks, rooms_for};
+ghost use Rattle.ng_replay.specs.Crews.{HasRoomFor, IsCrewFor, doors_of, hands_of};
+ghost use Rattle.ng_replay.specs.Serving.{IsCapOf, plain};
+ghost use Rattle.ng_space.specs.Callers.{fresh_callers};
+ghost use Rattle.ng_space.specs.Closings.{AreAll, IsEven};
+ghost use Rattle.ng_terms.specs.Calls.{Fits};
+
+use crate::crew::Crew;
+use crate::gate::Gate;
+use crate::turns::leave_row;
+use crate::worker::{Worker, work_all};
+use ng_heap::SharedHeap;
+use ng_mapper::Mapper;
+use ng_policy::Rules;
+use ng_post::{Boxes, Door, finish};
+use ng_space::{Hand, Name};
+use ng_terms::{Items, Plan, Reply};
+use std::sync::Wait;
+use std::thread::Threads;
+
+/// Does the ops of each log of a plan by a worker of its own, beside each other. A worker whose thread can't be made is run by
+/// the caller. A block that is still live at the end stays in the hand of its log. It takes no memory.
+pub fn threads<
+    R: Threads + Wait + Sync,
+    N: Name + Send + Sync,
+    M: Mapper + Send,
+    P: Rules + Send,
+    G: Gate + Sync,
+>(
+    rt: &R,
+    heap: &SharedHeap<N, M, P>,
+    boxes: Boxes<N>,
+    crew: Crew<N>,
+    plan: &Plan,
+    gate: &G,
+) -> (Vec<Hand<N>>, Vec<Items<Reply>>)
+    requires sound { IsSound plan.now }
+    requires few { length plan.now.logs ≤ 16 }
+    requires cap { IsCapOf N.facts.start.cap plan.now }
+    requires all { length plan.now.logs ≡ N.facts.hands }
+    requires crew { IsCrewFor crew plan.now }
+    requires hands { hands_of crew ≡ fresh_callers 1 (rooms_for plan.now) }
+    requires boxes { AreOpened plan.now boxes (doors_of crew) }
+
+    ensures fits { Fits plan.now plain result.1.items }
+    ensures books { AreBooks plan.now result.1.items result.0.items }
+    ensures framed { AreAllFramed result.0.items }
+    ensures all { AreAll N.facts.hands result.0.items }
+    ensures even { IsEven result.0.items }
+{
+    let mut crew = crew;
+    work_all(rt, heap, &boxes, crew.workers.as_mut_slice(), plan, gate);
+    let (hands, doors, replies) = end_workers(crew);
+    finish(boxes, doors);
+    (hands, replies)
+}
+
+/// What the workers leave, each list in the order of the logs. Their blocks stay in their hands.
+fn end_workers<N: Name>(crew: Crew<N>) -> (Vec<Hand<N>>, Vec<Door<N>>, Vec<Items<Reply>>)
+    requires room { HasRoomFor crew (length crew.workers.items) }
+    ensures hands { result.0.items ≡ hands_of crew }
+    ensures doors { result.1.items ≡ doors_of crew }
+    ensures replies { result.2.items ≡ map (λ worker. worker.replies.items) crew.workers.items }
+{
+    let Crew {
+        mut workers,
+        mut hands,
+        mut doors,
+        mut replies,
+    } = crew;
+    while workers.len() > 0 {
+        let Worker {
+            mut hand,
+            door,
+            row,
+            replies: done,
+        } = workers.remove(0);
+        leave_row(&mut hand, row);
+        hands.push_reserved(hand);
+        doors.push_reserved(door);
+        replies.push_reserved(Items::from_vec(done));
+    }
+    workers.destroy_empty();
+    (hands, doors, replies)
+}
