@@ -25,7 +25,7 @@ use Rattle.ng_replay.specs.Serving.{plain}
 use Rattle.ng_replay.proofs.BookLemmas.{AreBooks-more, calls_of_log-none, hand_at-other, hand_at-same}
 use Rattle.ng_replay.proofs.RowLemmas.{underway-none}
 
-total-sum : {X : Type 0} → (f : X → ℕ) (xs : List X) → total_by f xs ≡ sum_by f xs
+pub total-sum : {X : Type 0} → (f : X → ℕ) (xs : List X) → total_by f xs ≡ sum_by f xs
 total-sum f [] = refl
 total-sum f (x ∷ xs) = ap (λ (n : ℕ). f x + n) (total-sum f xs) ∙ sym (sum_by-cons f x xs)
 
@@ -55,7 +55,7 @@ length-fresh : (number : ℕ) (rooms : List ℕ) → length (fresh_callers numbe
 length-fresh number [] = refl
 length-fresh number (room ∷ rooms) = ap suc (length-fresh (number + 1) rooms)
 
-get_or-fresh : (number : ℕ) (rooms : List ℕ) (i : ℕ) (d : Caller) → i < length rooms
+pub get_or-fresh : (number : ℕ) (rooms : List ℕ) (i : ℕ) (d : Caller) → i < length rooms
     → get_or (fresh_callers number rooms) i d ≡ fresh_caller (number + i) (get_or rooms i 0)
 get_or-fresh number [] i d below = absurd (omega arith)
 get_or-fresh number (room ∷ rooms) zero d below = let at : number ≡ number + 0 = omega arith in ap (λ (n : ℕ). fresh_caller n room) at

@@ -14,3 +14,6 @@ pub mod MoveLemmas
 pub mod ClosingLemmas
 pub mod FlatLemmas
 pub mod WorkLemmas
+pub mod CrewLemmas
+pub mod MailLemmas
+pub mod EndLemmas

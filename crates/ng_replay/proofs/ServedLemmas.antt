@@ -78,7 +78,7 @@ AreServed-start plan sound replies held handed logs empty rows bare none = recor
     by_origin taker inside Skip is = refl
 
 -- what holds at each place holds of the lists side by side
-AllZip-from_places : {X Y : Type 0} → (R : X → Y → Type 0) (xs : List X) (ys : List Y) (d : X) (e : Y) → length ys ≡ length xs
+pub AllZip-from_places : {X Y : Type 0} → (R : X → Y → Type 0) (xs : List X) (ys : List Y) (d : X) (e : Y) → length ys ≡ length xs
     → ((i : ℕ) → i < length xs → R (get_or xs i d) (get_or ys i e)) → AllZip R xs ys
 AllZip-from_places R [] [] d e same each = tt
 AllZip-from_places R [] (y ∷ ys) d e same each = absurd (omega arith)
