@@ -37,15 +37,15 @@ at_one-here k a f = grind (arith, nat_tests)
 at_one-else : {A : Type 0} (k : ℕ) (a : A) (f : ℕ → A) (p : ℕ) → p ≢ k → at_one k a f p ≡ f p
 at_one-else k a f p other = grind (arith, nat_tests)
 
-pairs_of-append : (p : ℕ) (xs ys : List Note) → pairs_of p (xs ++ ys) ≡ pairs_of p xs ++ pairs_of p ys
+pub pairs_of-append : (p : ℕ) (xs ys : List Note) → pairs_of p (xs ++ ys) ≡ pairs_of p xs ++ pairs_of p ys
 pairs_of-append p xs ys =
     ap (map (λ (n : Note). n.1)) (filter-append (λ (n : Note). n.0 == p) xs ys)
     ∙ map-append (λ (n : Note). n.1) (filter (λ (n : Note). n.0 == p) xs) (filter (λ (n : Note). n.0 == p) ys)
 
-pairs_of-one : (p : ℕ) (n : Note) → p ≡ n.0 → pairs_of p (n ∷ []) ≡ n.1 ∷ []
+pub pairs_of-one : (p : ℕ) (n : Note) → p ≡ n.0 → pairs_of p (n ∷ []) ≡ n.1 ∷ []
 pairs_of-one p n is = grind (arith, nat_tests)
 
-pairs_of-none : (p : ℕ) (n : Note) → p ≢ n.0 → pairs_of p (n ∷ []) ≡ []
+pub pairs_of-none : (p : ℕ) (n : Note) → p ≢ n.0 → pairs_of p (n ∷ []) ≡ []
 pairs_of-none p n other = grind (arith, nat_tests)
 
 pub same_or_not : (a b : ℕ) → (a ≡ b) ⊎ (a ≢ b)
@@ -54,12 +54,12 @@ same_or_not a b = ⊎_elim (λ (x : (eqb a b ≡ true) × (a ≡ b)). inl x.1) (
 below_or_not : (a b : ℕ) → (a < b) ⊎ (b ≤ a)
 below_or_not a b = cases_lt a b
 
-past : {A : Type 0} (xs : List A) (k : ℕ) (d : A) → length xs ≤ k → get_or xs k d ≡ d
+pub past : {A : Type 0} (xs : List A) (k : ℕ) (d : A) → length xs ≤ k → get_or xs k d ≡ d
 past [] k d le = refl
 past (x ∷ xs) zero d le = absurd (omega arith)
 past (x ∷ xs) (suc k) d le = past xs k d (omega arith)
 
-last_of : {A : Type 0} (xs : List A) (a d : A) → get_or (xs ++ a ∷ []) (length xs) d ≡ a
+pub last_of : {A : Type 0} (xs : List A) (a d : A) → get_or (xs ++ a ∷ []) (length xs) d ≡ a
 last_of [] a d = refl
 last_of (x ∷ xs) a d = last_of xs a d
 

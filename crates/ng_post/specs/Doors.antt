@@ -29,18 +29,17 @@ sent_to receivers box sent = filter (goes_to receivers box) sent
 -- these are the passes that lead, of each box one, which has made a sender for each log
 pub record AreLeads {N : Type 0} (boxes : Boxes N) (leads : List (Pass (Letter N) View)) : Type 0 where
   pub count : length leads ≡ vec_len boxes.boxes
-  pub each : (b : ℕ) (q : _) (p : _) → b < vec_len boxes.boxes
-      → IsPassOf (slice_index_or boxes.boxes.items b q) (slice_index_or leads b p)
-      × (view (slice_index_or leads b p) ≡ leader (vec_len boxes.boxes) false [] [])
+  pub passes : (b : ℕ) (q : _) (p : _) → b < vec_len boxes.boxes → IsPassOf (slice_index_or boxes.boxes.items b q) (slice_index_or leads b p)
+  pub knows : (b : ℕ) (p : _) → b < vec_len boxes.boxes → view (slice_index_or leads b p) ≡ leader (vec_len boxes.boxes) false [] []
 
 -- the door was opened with these boxes: its passes are theirs and know what it posted and what arrived, and what arrived was
 -- collected or is kept. The passes that lead are with the first door
 pub record IsDoorOf {N : Type 0} (boxes : Boxes N) (door : Door N) : Type 0 where
   pub log : door.log < vec_len boxes.boxes
   pub ways : vec_len door.to ≡ vec_len boxes.boxes
-  pub to : (b : ℕ) (q : _) (p : _) → b < vec_len boxes.boxes
-      → IsPassOf (slice_index_or boxes.boxes.items b q) (slice_index_or door.to.items b p)
-      × (view (slice_index_or door.to.items b p) ≡ sender door.log (sent_to boxes.receivers.items b door.sent.items))
+  pub to : (b : ℕ) (q : _) (p : _) → b < vec_len boxes.boxes → IsPassOf (slice_index_or boxes.boxes.items b q) (slice_index_or door.to.items b p)
+  pub sends : (b : ℕ) (p : _) → b < vec_len boxes.boxes
+      → view (slice_index_or door.to.items b p) ≡ sender door.log (sent_to boxes.receivers.items b door.sent.items)
   pub own : (q : _) → IsPassOf (slice_index_or boxes.boxes.items door.log q) door.own
   pub reads : view door.own ≡ reader (view door.own).got
   pub arrives : map (λ (n : Note). n.1) (view door.own).got ≡ door.arrived.items

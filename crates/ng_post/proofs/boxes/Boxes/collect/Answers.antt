@@ -9,6 +9,7 @@ returns-in-Some-take_kept-clause-door g c =
       log = was.log;
       ways = was.ways;
       to = was.to;
+      sends = was.sends;
       own = was.own;
       reads = was.reads;
       arrives = was.arrives;

@@ -18,15 +18,15 @@ returns-clause-door g c =
     let most = c.requires.number.most in
     let below : get_or receivers (c.args.number - 1) 0 < boxes.len = All-get_or (λ (log : ℕ). log < boxes.len) receivers (c.args.number - 1) 0 (omega arith) c.args.self.now.within in
     let within : to < length boxes.items = omega (arith, boxes.ok.0, is, below) in
+    let posted = to-posted boxes.items door.to.items c.put.new.key receivers door.sent.items (c.args.number, address_of c.args.mail) door.log to
+    (λ b q p lt. (was.to b q p (omega (arith, boxes.ok.0)), was.sends b p (omega (arith, boxes.ok.0)))) (omega (arith, boxes.ok.0, door.to.ok.0, was.ways)) is within
+    (λ q. rw (get_or_default boxes.items to q c.index.result.now within ∙ sym c.index.ensures) c.put.ensures.pass)
+    (λ p. rw (get_or_default door.to.items to p c.index_mut.result.now (omega (arith, door.to.ok.0, boxes.ok.0, was.ways, within)) ∙ sym c.index_mut.ensures.value) c.put.ensures.put) in
     record {
       log = was.log;
       ways = was.ways;
-      to = λ b q p lt. rw (c.push_reserved.ensures.items, c.address.ensures)
-          (to-posted boxes.items door.to.items c.put.new.key receivers door.sent.items (c.args.number, address_of c.args.mail) door.log to
-          (λ b q p lt. was.to b q p (omega (arith, boxes.ok.0))) (omega (arith, boxes.ok.0, door.to.ok.0, was.ways)) is within
-          (λ q. rw (get_or_default boxes.items to q c.index.result.now within ∙ sym c.index.ensures) c.put.ensures.pass)
-          (λ p. rw (get_or_default door.to.items to p c.index_mut.result.now (omega (arith, door.to.ok.0, boxes.ok.0, was.ways, within)) ∙ sym c.index_mut.ensures.value) c.put.ensures.put)
-          b q p (omega (arith, boxes.ok.0)));
+      to = λ b q p lt. (posted b q p (omega (arith, boxes.ok.0))).0;
+      sends = λ b p lt. rw (c.push_reserved.ensures.items, c.address.ensures) (posted b c.index.result.now p (omega (arith, boxes.ok.0))).1;
       own = was.own;
       reads = was.reads;
       arrives = was.arrives;

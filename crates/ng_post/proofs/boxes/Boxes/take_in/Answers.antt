@@ -17,6 +17,7 @@ returns-clause-door g c =
       log = was.log;
       ways = was.ways;
       to = was.to;
+      sends = was.sends;
       own = search rules;
       reads = reads-on _ _ (note_of c.in-Some.letter) was.reads seen;
       arrives = rw (c.push_reserved.ensures.items, c.address.ensures) (arrives-on _ _ (note_of c.in-Some.letter) _ was.arrives seen);
