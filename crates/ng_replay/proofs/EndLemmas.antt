@@ -22,7 +22,7 @@ use Rattle.ng_terms.specs.declared.reply.Reply.{Reply}
 use Rattle.ng_terms.specs.declared.reply.Reply.TheVariants.{Absent}
 use Rattle.ng_terms.specs.Calls.{Fits, FitsOp, handed_as, origin_of, source_of, standing, standing_of_number}
 use Rattle.ng_replay.specs.Books.{AreAllFramed, AreBooks, hand_at}
-use Rattle.ng_replay.specs.Crews.{HaveDone}
+use Rattle.ng_replay.specs.Crews.{AreEnded, HaveDone}
 use Rattle.ng_replay.specs.Serial.{reply_at, stands_at}
 use Rattle.ng_replay.specs.Serving.{plain}
 use Rattle.ng_replay.specs.Works.{AreDone, blocks_among, claimed_by, collected_as, posted_of, source_by}
@@ -34,23 +34,26 @@ use Rattle.ng_replay.proofs.RowLemmas.{get_or-there}
 use Rattle.ng_replay.proofs.ServedLemmas.{AllZip-from_places}
 use Rattle.ng_replay.proofs.SourceLemmas.{standing_of_number-maker}
 
--- what each log's worker has done, by the lists of what all leave
-pub record AreEnded {N : Type 0} (boxes : Boxes N) (plan : Plan) (hands : List Caller) (doors : List (Door N)) (replies : List (List Reply)) : Type 0 where
-  pub many_hands : length hands ≡ length plan.logs
-  pub many_doors : length doors ≡ length plan.logs
-  pub many_replies : length replies ≡ length plan.logs
-  pub each : (log : ℕ) (d : Door N) → log < length plan.logs
-      → AreDone boxes (get_or plan.logs log []) log (hand_at hands log) (get_or doors log d) (get_or replies log [])
-
-pub AreEnded-workers : {N : Type 0} → (boxes : Boxes N) (plan : Plan) (workers : List (Worker N)) → HaveDone boxes plan workers
-    → AreEnded boxes plan (map (λ (w : Worker N). w.hand) workers) (map (λ (w : Worker N). w.door) workers) (map (λ (w : Worker N). w.replies.items) workers)
-AreEnded-workers {N} boxes plan workers done = record {
-  many_hands = length-map workers (λ (w : Worker N). w.hand) ∙ done.count;
-  many_doors = length-map workers (λ (w : Worker N). w.door) ∙ done.count;
-  many_replies = length-map workers (λ (w : Worker N). w.replies.items) ∙ done.count;
-  each = each;
+-- the lists of what the workers leave
+pub AreEnded-left : {N : Type 0} → (boxes : Boxes N) (plan : Plan) (workers left : List (Worker N)) (hands : List Caller) (doors : List (Door N)) (replies : List (List Reply))
+    → HaveDone boxes plan workers → left ≡ workers → hands ≡ map (λ (w : Worker N). w.hand) left → doors ≡ map (λ (w : Worker N). w.door) left
+    → replies ≡ map (λ (w : Worker N). w.replies.items) left → AreEnded boxes plan hands doors replies
+AreEnded-left {N} boxes plan workers left hands doors replies done same hands_are doors_are replies_are = record {
+  many_hands = ap length hands_is ∙ length-map workers (λ (w : Worker N). w.hand) ∙ done.count;
+  many_doors = ap length doors_is ∙ length-map workers (λ (w : Worker N). w.door) ∙ done.count;
+  many_replies = ap length replies_is ∙ length-map workers (λ (w : Worker N). w.replies.items) ∙ done.count;
+  each = λ log d below. rw (hands_is, doors_is, replies_is) (each log d below);
 }
   where
+    hands_is : hands ≡ map (λ (w : Worker N). w.hand) workers
+    hands_is = hands_are ∙ ap (map (λ (w : Worker N). w.hand)) same
+
+    doors_is : doors ≡ map (λ (w : Worker N). w.door) workers
+    doors_is = doors_are ∙ ap (map (λ (w : Worker N). w.door)) same
+
+    replies_is : replies ≡ map (λ (w : Worker N). w.replies.items) workers
+    replies_is = replies_are ∙ ap (map (λ (w : Worker N). w.replies.items)) same
+
     each : (log : ℕ) (d : Door N) → log < length plan.logs
         → AreDone boxes (get_or plan.logs log []) log (hand_at (map (λ (w : Worker N). w.hand) workers) log) (get_or (map (λ (w : Worker N). w.door) workers) log d)
         (get_or (map (λ (w : Worker N). w.replies.items) workers) log [])

@@ -6,6 +6,8 @@ use Rattle.ng_post.specs.Doors.{IsDoorOf}
 use Rattle.ng_space.specs.Callers.{Caller, fresh_caller}
 use Rattle.ng_terms.specs.declared.plan.Op.{Op}
 use Rattle.ng_terms.specs.declared.plan.Plan.{Plan}
+use Rattle.ng_terms.specs.declared.reply.Reply.{Reply}
+use Rattle.ng_replay.specs.Books.{hand_at}
 use Rattle.ng_replay.specs.Works.{AreDone, MayDo}
 use Rattle.ng_replay.specs.Room.{HaveRoom}
 use Rattle.ng_replay.specs.declared.crew.Crew.{Crew}
@@ -79,3 +81,11 @@ pub record AreReady {N : Type 0} (boxes : Boxes N) (cap : ℕ) (plan : Plan) (wo
 pub record HaveDone {N : Type 0} (boxes : Boxes N) (plan : Plan) (workers : List (Worker N)) : Type 0 where
   pub count : length workers ≡ length plan.logs
   pub each : (log : ℕ) (w : Worker N) → log < length plan.logs → HasDone boxes (slice_index_or plan.logs log []) log (slice_index_or workers log w)
+
+-- the ops of all logs were done: what each log's worker left
+pub record AreEnded {N : Type 0} (boxes : Boxes N) (plan : Plan) (hands : List Caller) (doors : List (Door N)) (replies : List (List Reply)) : Type 0 where
+  pub many_hands : length hands ≡ length plan.logs
+  pub many_doors : length doors ≡ length plan.logs
+  pub many_replies : length replies ≡ length plan.logs
+  pub each : (log : ℕ) (d : Door N) → log < length plan.logs
+      → AreDone boxes (slice_index_or plan.logs log []) log (hand_at hands log) (slice_index_or doors log d) (slice_index_or replies log [])

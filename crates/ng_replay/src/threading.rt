@@ -2,7 +2,7 @@ ghost use Rattle.std.specs.Prelude.{◌≡◌, ◌≤◌, length, map};
 ghost use Rattle.ng_plan.specs.Sound.{IsSound};
 ghost use Rattle.ng_post.specs.Opened.{AreOpened};
 ghost use Rattle.ng_replay.specs.Books.{AreAllFramed, AreBooks, rooms_for};
-ghost use Rattle.ng_replay.specs.Crews.{HasRoomFor, IsCrewFor, doors_of, hands_of};
+ghost use Rattle.ng_replay.specs.Crews.{AreEnded, AreReady, HasRoomFor, IsCrewFor, doors_of, hands_of};
 ghost use Rattle.ng_replay.specs.Serving.{IsCapOf, plain};
 ghost use Rattle.ng_space.specs.Callers.{fresh_callers};
 ghost use Rattle.ng_space.specs.Closings.{AreAll, IsEven};
@@ -51,11 +51,33 @@ pub fn threads<
     ensures all { AreAll N.facts.hands result.0.items }
     ensures even { IsEven result.0.items }
 {
-    let mut crew = crew;
-    work_all(rt, heap, &boxes, crew.workers.as_mut_slice(), plan, gate);
-    let (hands, doors, replies) = end_workers(crew);
+    let (hands, doors, replies) = do_all(rt, heap, &boxes, crew, plan, gate);
     finish(boxes, doors);
     (hands, replies)
+}
+
+/// Does the ops of all logs, and gives back what the workers leave.
+fn do_all<
+    R: Threads + Wait + Sync,
+    N: Name + Send + Sync,
+    M: Mapper + Send,
+    P: Rules + Send,
+    G: Gate + Sync,
+>(
+    rt: &R,
+    heap: &SharedHeap<N, M, P>,
+    boxes: &Boxes<N>,
+    mut crew: Crew<N>,
+    plan: &Plan,
+    gate: &G,
+) -> (Vec<Hand<N>>, Vec<Door<N>>, Vec<Items<Reply>>)
+    requires few { length plan.now.logs ≤ 16 }
+    requires ready { AreReady boxes.now N.facts.start.cap plan.now crew.workers.items }
+    requires room { HasRoomFor crew (length plan.now.logs) }
+    ensures { AreEnded boxes.now plan.now result.0.items result.1.items result.2.items }
+{
+    work_all(rt, heap, boxes, crew.workers.as_mut_slice(), plan, gate);
+    end_workers(crew)
 }
 
 /// What the workers leave, each list in the order of the logs. Their blocks stay in their hands.
