@@ -6,7 +6,8 @@ use Rattle.ng_policy.specs.declared.ask.Ask.{Ask}
 use Rattle.ng_view.specs.Lists.{Among}
 use Rattle.ng_view.specs.declared.view.Desk.{Desk}
 use Rattle.ng_view.specs.declared.view.Run.{Run}
-use Rattle.ng_group.specs.Asking.{AsksRun, GetsByRun, GetsFromRing, GetsSlot, IsAreaWanted, IsWalked, LeavesHeap, RefusedWanted, WantsArea, areas, group_runs}
+use Rattle.ng_ledger.specs.Runs.{areas_in}
+use Rattle.ng_group.specs.Asking.{AsksRun, GetsByRun, GetsFromRing, GetsSlot, IsAreaWanted, IsWalked, LeavesHeap, RefusedWanted, WantsArea, group_runs}
 use Rattle.ng_group.specs.Lone.{BuildsLone, IsAreaNeeded, IsLoneRefused}
 use Rattle.ng_group.specs.Serving.{ServesRing}
 use Rattle.ng_group.specs.States.{State}
@@ -39,8 +40,8 @@ module _ {M P : Type 0} (before after later : State M P) (desk : later.seat.desk
     area_still : (words : List (ℕ × ℕ)) (counts : Ask → ℕ → Type 0) (class bytes : ℕ) → IsAreaWanted counts before after words class bytes
         → IsAreaWanted counts before later words class bytes
     area_still words counts class bytes area = subst
-        (λ (d : Desk). (areas d.layout.runs ≡ areas before.seat.desk.layout.runs)
-        ⊎ ((areas d.layout.runs ≡ areas before.seat.desk.layout.runs + 1) × WantsArea counts before words class bytes))
+        (λ (d : Desk). (areas_in d.layout.runs ≡ areas_in before.seat.desk.layout.runs)
+        ⊎ ((areas_in d.layout.runs ≡ areas_in before.seat.desk.layout.runs + 1) × WantsArea counts before words class bytes))
         (sym desk)
         area
 
@@ -102,9 +103,9 @@ module _ {M P : Type 0} (before after later : State M P) (desk : later.seat.desk
         came = came_still told.came;
         one_area = area_still told.came.words counts class bytes told.one_area;
         cause = ⊎_elim
-            (λ (area : (pages ≡ 1) × (areas after.seat.desk.layout.runs ≡ areas before.seat.desk.layout.runs) × (after.bounces ≡ before.bounces)
+            (λ (area : (pages ≡ 1) × (areas_in after.seat.desk.layout.runs ≡ areas_in before.seat.desk.layout.runs) × (after.bounces ≡ before.bounces)
             × WantsArea counts before told.came.words class bytes).
-            inl (area.0, ap (λ (d : Desk). areas d.layout.runs) desk ∙ area.1, bounces ∙ area.2, area.3))
+            inl (area.0, ap (λ (d : Desk). areas_in d.layout.runs) desk ∙ area.1, bounces ∙ area.2, area.3))
             (λ (run : AsksRun counts before after told.came.words class bytes pages). inr (run.0, bounces ∙ run.1))
             told.cause;
       }

@@ -18,7 +18,8 @@ use Rattle.ng_view.specs.declared.view.Run.{Run}
 use Rattle.ng_view.specs.declared.view.Start.{Start}
 use Rattle.ng_view.specs.declared.view.View.{View}
 use Rattle.ng_ledger.specs.Rings.{IsIn}
-use Rattle.ng_group.specs.Asking.{GetsSlot, IsWalked, LeavesHeap, RefusedWanted, Want, areas, group_runs}
+use Rattle.ng_ledger.specs.Runs.{areas_in}
+use Rattle.ng_group.specs.Asking.{GetsSlot, IsWalked, LeavesHeap, RefusedWanted, Want, group_runs}
 use Rattle.ng_group.specs.Serving.{FindsNoSlot, IsServedBy, OnlyRing}
 use Rattle.ng_group.specs.States.{State}
 use Rattle.ng_group.specs.Steps.{Came}
@@ -64,7 +65,7 @@ gets_served {M = M} {P = P} counts s after class bytes only served = record {
   new_runs = [];
   runs_are = runs;
   runs = λ r there. inl (subst (λ (rs : List Run). Among r rs) runs there);
-  one_area = inl (ap areas runs);
+  one_area = inl (ap areas_in runs);
   new_groups = [];
   groups_are = ap (λ (v : View). v.desk.groups) only.view;
   groups = λ g there. inl (subst (λ (gs : List Group). Among g gs) (ap (λ (v : View). v.desk.groups) only.view) there);
@@ -182,10 +183,10 @@ module _ {M P : Type 0} (class : ℕ) (s found : State M P) (only : OnlyRing cla
     pub area_cause : (counts : Ask → ℕ → Type 0) (bytes pages : ℕ) → pages ≡ now.last → free_of found.stock ≡ [] → RefusedWanted counts s (record found { seat = w; stock = stock; mapper = m }) class bytes pages
     area_cause counts bytes pages last empty = record {
       came = refused_seeks.came;
-      one_area = inl (ap areas refused_runs);
+      one_area = inl (ap areas_in refused_runs);
       cause = inl (
         last ∙ refuses.asked.last,
-        ap areas refused_runs,
+        ap areas_in refused_runs,
         refused_seeks.bounces,
         area_first counts s (record found { seat = w; stock = stock; mapper = m }) class bytes refused_seeks want refl refl refused_seeks.came.words (λ m bare. bare) (ap free_of (sym same_stock) ∙ empty),
       );

@@ -13,7 +13,8 @@ use Rattle.ng_view.specs.Lists.{Among, count_of}
 use Rattle.ng_view.specs.declared.view.Group.{Group}
 use Rattle.ng_view.specs.declared.view.Run.{Run}
 use Rattle.ng_view.specs.declared.view.View.{View}
-use Rattle.ng_group.specs.Asking.{AsksRun, GetsByRun, GetsFromRing, GetsSlot, HasSlots, IsAreaWanted, IsAsked, IsCarried, IsGroupWanted, IsRunWanted, IsWalked, LeavesHeap, RefusedWanted, Want, WantsArea, WantsRun, areas, carried_bytes, group_runs}
+use Rattle.ng_ledger.specs.Runs.{areas_in}
+use Rattle.ng_group.specs.Asking.{AsksRun, GetsByRun, GetsFromRing, GetsSlot, HasSlots, IsAreaWanted, IsAsked, IsCarried, IsGroupWanted, IsRunWanted, IsWalked, LeavesHeap, RefusedWanted, Want, WantsArea, WantsRun, carried_bytes, group_runs}
 use Rattle.ng_group.specs.Building.{HasBuilt, LeavesAll}
 use Rattle.ng_group.specs.States.{State}
 use Rattle.ng_group.specs.Steps.{Came}
@@ -24,16 +25,16 @@ use Rattle.ng_group.proofs.BuildingLemmas.{carrier_above}
 module _ {M P : Type 0} (counts : Ask → ℕ → Type 0) (s mid : State M P) (class bytes : ℕ) (sought : Seeks class s mid) (took : TakesFree s mid ⊎ TakesArea s mid)
     (w : Want) (of_class : w.class ≡ class) (of_bytes : w.bytes ≡ bytes) where
   -- the area that came was wanted
-  area_came : (words : List (ℕ × ℕ)) → ((m : ℕ) → IsBareIn sought.came.words m → IsBareIn words m) → (runs : List Run) → areas runs ≡ areas (runs_of mid)
-      → (areas runs ≡ areas (runs_of s)) ⊎ ((areas runs ≡ areas (runs_of s) + 1) × WantsArea counts s words class bytes)
+  area_came : (words : List (ℕ × ℕ)) → ((m : ℕ) → IsBareIn sought.came.words m → IsBareIn words m) → (runs : List Run) → areas_in runs ≡ areas_in (runs_of mid)
+      → (areas_in runs ≡ areas_in (runs_of s)) ⊎ ((areas_in runs ≡ areas_in (runs_of s) + 1) × WantsArea counts s words class bytes)
   area_came words more runs same = ⊎_elim
-      (λ (free : TakesFree s mid). inl (same ∙ ap areas free.runs))
+      (λ (free : TakesFree s mid). inl (same ∙ ap areas_in free.runs))
       (λ (area : TakesArea s mid). inr (same ∙ one_more area, area_first counts s mid class bytes sought w of_class of_bytes words more area.none))
       took
     where
-      one_more : (area : TakesArea s mid) → areas (runs_of mid) ≡ areas (runs_of s) + 1
+      one_more : (area : TakesArea s mid) → areas_in (runs_of mid) ≡ areas_in (runs_of s) + 1
       one_more area =
-          let all : areas (runs_of mid) ≡ count_of area.run.area + areas (runs_of s) = ap areas area.runs in
+          let all : areas_in (runs_of mid) ≡ count_of area.run.area + areas_in (runs_of s) = ap areas_in area.runs in
           let one : count_of area.run.area ≡ 1 = ap count_of area.area in
           omega (arith, all, one)
 
@@ -87,7 +88,7 @@ module _ {M P : Type 0} (counts : Ask → ℕ → Type 0) (s mid : State M P) (c
       new_runs = plain_run base (shape_of w.ask w.bytes w.count).pages ∷ more_runs.0;
       runs_are = runs ∙ ap (λ (rs : List Run). plain_run base (shape_of w.ask w.bytes w.count).pages ∷ rs) more_runs.1;
       runs = λ r there. run r (subst (λ (rs : List Run). Among r rs) runs there);
-      one_area = area_came sought.came.words (λ m bare. bare) (runs_of after) (ap areas runs ∙ none_more);
+      one_area = area_came sought.came.words (λ m bare. bare) (runs_of after) (ap areas_in runs ∙ none_more);
       new_groups = built.group ∷ [];
       groups_are = built.groups ∙ ap (λ (gs : List Group). built.group ∷ gs) sought.groups;
       groups = λ g there. group g (subst (λ (gs : List Group). Among g gs) built.groups there);
@@ -103,7 +104,7 @@ module _ {M P : Type 0} (counts : Ask → ℕ → Type 0) (s mid : State M P) (c
       });
     }
       where
-        none_more : areas (plain_run base (shape_of w.ask w.bytes w.count).pages ∷ runs_of mid) ≡ areas (runs_of mid)
+        none_more : areas_in (plain_run base (shape_of w.ask w.bytes w.count).pages ∷ runs_of mid) ≡ areas_in (runs_of mid)
         none_more = omega arith
 
         one_run : group_runs (runs_of after) ≡ group_runs (runs_of s) + 1
@@ -146,7 +147,7 @@ module _ {M P : Type 0} (counts : Ask → ℕ → Type 0) (s mid : State M P) (c
       unfolding wants_run
       run_cause pages same bounces = record {
         came = run_came;
-        one_area = area_came run_came.words run_more_words (runs_of after) (ap areas runs_left);
+        one_area = area_came run_came.words run_more_words (runs_of after) (ap areas_in runs_left);
         cause = inr (subst (λ n. AsksRun counts s after run_came.words class bytes n) (sym same) (
           wants_run run_came.words run_more_words,
           bounces
@@ -193,10 +194,10 @@ module _ {M P : Type 0} (counts : Ask → ℕ → Type 0) (s mid : State M P) (c
           took
 
       area_then : IsAreaWanted counts mid inner rest next (carried_bytes w) → (runs : List Run) → runs ≡ runs_of inner
-          → (areas runs ≡ areas (runs_of s)) ⊎ ((areas runs ≡ areas (runs_of s) + 1) × WantsArea counts s words class bytes)
-      area_then (inl same) runs is = area_came words more runs (ap areas is ∙ same)
+          → (areas_in runs ≡ areas_in (runs_of s)) ⊎ ((areas_in runs ≡ areas_in (runs_of s) + 1) × WantsArea counts s words class bytes)
+      area_then (inl same) runs is = area_came words more runs (ap areas_in is ∙ same)
       area_then (inr (grew, wants)) runs is = ⊎_elim
-          (λ (free : TakesFree s mid). inr (ap areas is ∙ grew ∙ ap (λ (rs : List Run). areas rs + 1) free.runs, area_inside wants))
+          (λ (free : TakesFree s mid). inr (ap areas_in is ∙ grew ∙ ap (λ (rs : List Run). areas_in rs + 1) free.runs, area_inside wants))
           (λ (area : TakesArea s mid). absurd (impossible area rest wants))
           took
 
@@ -325,13 +326,13 @@ module _ {M P : Type 0} (counts : Ask → ℕ → Type 0) (s mid : State M P) (c
           reread : (m : ℕ) → IsBareIn inside.came.words m → IsBareIn came.words m
           reread m = bare_right sought.came.words inside.came.words m
 
-          cause : ((pages ≡ 1) × (areas (runs_of inner) ≡ areas (runs_of mid)) × (inner.bounces ≡ mid.bounces) × WantsArea counts mid inside.came.words next (carried_bytes w))
+          cause : ((pages ≡ 1) × (areas_in (runs_of inner) ≡ areas_in (runs_of mid)) × (inner.bounces ≡ mid.bounces) × WantsArea counts mid inside.came.words next (carried_bytes w))
               ⊎ AsksRun counts mid inner inside.came.words next (carried_bytes w) pages
-              → ((pages ≡ 1) × (areas (runs_of after) ≡ areas (runs_of s)) × (after.bounces ≡ s.bounces) × WantsArea counts s came.words class bytes)
+              → ((pages ≡ 1) × (areas_in (runs_of after) ≡ areas_in (runs_of s)) × (after.bounces ≡ s.bounces) × WantsArea counts s came.words class bytes)
               ⊎ AsksRun counts s after came.words class bytes pages
           cause (inl (page, same, kept, wants)) = ⊎_elim
               (λ (free : TakesFree s mid).
-              inl (page, ap areas runs_inner ∙ same ∙ ap areas free.runs, bounces ∙ kept ∙ sought.bounces, area_inside inside.came.words came.words more reread wants))
+              inl (page, ap areas_in runs_inner ∙ same ∙ ap areas_in free.runs, bounces ∙ kept ∙ sought.bounces, area_inside inside.came.words came.words more reread wants))
               (λ (area : TakesArea s mid). absurd (impossible area inside.came.words wants))
               took
           cause (inr (run, stepped_once)) = inr (
@@ -386,11 +387,11 @@ module _ {M P : Type 0} (counts : Ask → ℕ → Type 0) (s mid : State M P) (c
               (λ (same : runs_of inner ≡ runs_of mid). same)
               (λ (new : (r : Run) × (r.area ≡ true) × (r.pages ≡ 1) × (runs_of inner ≡ r ∷ runs_of mid)).
               absurd (⊎_elim
-              (λ (none : areas (runs_of inner) ≡ areas (runs_of mid)).
-              let all : areas (runs_of inner) ≡ count_of new.0.area + areas (runs_of mid) = ap areas new.3 in
+              (λ (none : areas_in (runs_of inner) ≡ areas_in (runs_of mid)).
+              let all : areas_in (runs_of inner) ≡ count_of new.0.area + areas_in (runs_of mid) = ap areas_in new.3 in
               let one : count_of new.0.area ≡ 1 = ap count_of new.1 in
               omega (arith, all, one, none))
-              (λ (one : (areas (runs_of inner) ≡ areas (runs_of mid) + 1) × WantsArea counts mid area_inner.0 next (carried_bytes w)). impossible area area_inner.0 one.1)
+              (λ (one : (areas_in (runs_of inner) ≡ areas_in (runs_of mid) + 1) × WantsArea counts mid area_inner.0 next (carried_bytes w)). impossible area area_inner.0 one.1)
               area_inner.1))
               inside.runs
 

@@ -1,5 +1,5 @@
 -- What holds of a core as it opens and as it closes, and how large the numbers are that the rules are asked.
-use Rattle.std.proofs.Common.{◌≡◌, ℕ, ◌+◌, ◌^◌, ◌<◌, ◌≤◌, List, [], Contains, slice_index, length, replicate, sum_by, refl, sym, ap, subst, ◌∙◌, inl, arith}
+use Rattle.std.proofs.Common.{◌≡◌, ℕ, ◌+◌, ◌^◌, ◌<◌, ◌≤◌, List, [], Contains, slice_index, length, replicate, refl, sym, ap, subst, ◌∙◌, inl, arith}
 use Rattle.std.specs.List.{slice_index_or}
 use Rattle.std.proofs.lemmas.List.{get_or-replicate, length-replicate}
 use Rattle.ng_mapper.specs.Mapping.{AreLaid, Span}
@@ -15,7 +15,7 @@ use Rattle.ng_view.specs.Lists.{Among}
 use Rattle.ng_view.specs.declared.view.Start.{Start}
 use Rattle.ng_view.specs.declared.view.View.{View}
 use Rattle.ng_ledger.specs.Rings.{AreRinged, IsIn}
-use Rattle.ng_ledger.specs.Runs.{AreMapped, areas_in, pages_of}
+use Rattle.ng_ledger.specs.Runs.{AreMapped}
 use Rattle.ng_ledger.specs.Standing.{Ledger, Stands}
 use Rattle.ng_ledger.specs.Usage.{AreUsed}
 use Rattle.ng_ledger.proofs.HandLemmas.{blanked}
@@ -132,23 +132,18 @@ pub blanked_at : {M P : Type 0} (start : Start) (span : M → Span) (runs : M �
 blanked_at {M = M} {P = P} start span runs refused {s = s} same rests =
     subst (λ (x : State M P). IsBlanked x.seat) same (blanked start.pages s.seat (free_of s.stock) rests.working.stands.free rests.at_rest)
 
-pub pages_at : {M P : Type 0} (start : Start) (span : M → Span) (runs : M → List mapper.Run) (refused : M → Refusals) {s s' : State M P}
-    → ((m : M) → AreLaid (span m) (runs m)) → s ≡ s' → Resting start span runs refused s
-    → sum_by (λ (run : mapper.Run). run.1) (runs s'.mapper) ≡ areas_in s'.seat.desk.layout.runs + pages_of s'.seat.desk.groups
-pages_at {M = M} {P = P} start span runs refused {s = s} laid same rests =
-    let stands = rests.working.stands in
-    subst (λ (x : State M P). sum_by (λ (run : mapper.Run). run.1) (runs x.mapper) ≡ areas_in x.seat.desk.layout.runs + pages_of x.seat.desk.groups) same
-    (pages_are start.pages (span s.mapper) s.seat.desk.layout.runs s.seat.desk.groups (runs s.mapper) (laid s.mapper) stands.mapped stands.served stands.founded stands.groups)
-
 pub handed_at : {M P : Type 0} (facts : Facts) (span : M → Span) (runs : M → List mapper.Run) (refused : M → Refusals) {s s' : State M P}
-    → s ≡ s' → Resting facts.start span runs refused s → IsMostBounded facts (refused s.mapper) → IsHandedBack facts s'.seat (span s'.mapper) (runs s'.mapper) (refused s'.mapper)
-handed_at {M = M} {P = P} facts span runs refused {s = s} same rests most =
+    → ((m : M) → AreLaid (span m) (runs m)) → s ≡ s' → Resting facts.start span runs refused s → IsMostBounded facts (refused s.mapper)
+    → IsHandedBack facts s'.seat (span s'.mapper) (runs s'.mapper) (refused s'.mapper)
+handed_at {M = M} {P = P} facts span runs refused {s = s} laid same rests most =
+    let stands = rests.working.stands in
     subst (λ (x : State M P). IsHandedBack facts x.seat (span x.mapper) (runs x.mapper) (refused x.mapper)) same (record {
       lower = rests.working.space.lower;
       upper = rests.working.space.upper;
       size = rests.working.space.size;
       most = most;
-      mapped = rests.working.stands.mapped;
+      mapped = stands.mapped;
+      pages = pages_are facts.start.pages (span s.mapper) s.seat.desk.layout.runs s.seat.desk.groups (runs s.mapper) (laid s.mapper) stands.mapped stands.served stands.founded stands.groups;
       counted = rests.working.counted;
       leads = rests.working.leads;
       still = rests.still;

@@ -12,6 +12,7 @@ use Rattle.ng_view.specs.Lists.{Among, count_of, total_by}
 use Rattle.ng_view.specs.declared.view.Group.{Group}
 use Rattle.ng_view.specs.declared.view.Run.{Run}
 use Rattle.ng_ledger.specs.Rings.{IsIn}
+use Rattle.ng_ledger.specs.Runs.{areas_in}
 use Rattle.ng_group.specs.Building.{IsAsk}
 use Rattle.ng_group.specs.Serving.{ServesRing}
 use Rattle.ng_group.specs.States.{State}
@@ -76,18 +77,14 @@ pub record HasSlots (w : Want) (g : Group) : Type 0 where
   pub nested : IsNestedSize w.class w.count → g.last + 1 ≡ w.count
   pub mapped : ¬ IsNestedSize w.class w.count → g.last + 1 ≡ (shape_of w.ask w.bytes w.count).count
 
--- how many of the runs are areas
-abbrev pub areas : List Run → ℕ
-areas runs = total_by (λ (r : Run). count_of r.area) runs
-
--- and how many are for groups
+-- how many of the runs are for groups
 abbrev pub group_runs : List Run → ℕ
 group_runs runs = total_by (λ (r : Run). count_of (not r.area)) runs
 
 -- no area came, or one did, which was wanted
 abbrev pub IsAreaWanted : {M P : Type 0} → (Ask → ℕ → Type 0) → State M P → State M P → List (ℕ × ℕ) → ℕ → ℕ → Type 0
-IsAreaWanted counts before after words class bytes = (areas after.seat.desk.layout.runs ≡ areas before.seat.desk.layout.runs)
-    ⊎ ((areas after.seat.desk.layout.runs ≡ areas before.seat.desk.layout.runs + 1) × WantsArea counts before words class bytes)
+IsAreaWanted counts before after words class bytes = (areas_in after.seat.desk.layout.runs ≡ areas_in before.seat.desk.layout.runs)
+    ⊎ ((areas_in after.seat.desk.layout.runs ≡ areas_in before.seat.desk.layout.runs + 1) × WantsArea counts before words class bytes)
 
 -- the run was noted, or is an area that was wanted, or one for a wanted group
 abbrev pub IsRunWanted : {M P : Type 0} → (Ask → ℕ → Type 0) → State M P → List (ℕ × ℕ) → ℕ → ℕ → Run → Type 0
@@ -160,7 +157,7 @@ AsksRun counts before after words class bytes pages = (run : WantsRun counts bef
 pub record RefusedWanted {M P : Type 0} (counts : Ask → ℕ → Type 0) (before after : State M P) (class bytes pages : ℕ) : Type 0 where
   pub came : Came before.seat after.seat
   pub one_area : IsAreaWanted counts before after came.words class bytes
-  pub cause : ((pages ≡ 1) × (areas after.seat.desk.layout.runs ≡ areas before.seat.desk.layout.runs) × (after.bounces ≡ before.bounces)
+  pub cause : ((pages ≡ 1) × (areas_in after.seat.desk.layout.runs ≡ areas_in before.seat.desk.layout.runs) × (after.bounces ≡ before.bounces)
       × WantsArea counts before came.words class bytes)
       ⊎ AsksRun counts before after came.words class bytes pages
 

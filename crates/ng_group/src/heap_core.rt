@@ -1,7 +1,6 @@
 ghost use Rattle.std.specs.Prelude.{◌≡◌, ◌+◌, ◌*◌, ◌<◌, ◌≤◌, IfErr, IfOk, OnErr, OnOk, slice_get, sum_by};
 ghost use Rattle.ng_mapper.specs.Mapping.{NotesNone};
 ghost use Rattle.ng_class.specs.Class.{units_of};
-ghost use Rattle.ng_ledger.specs.Runs.{areas_in, pages_of};
 ghost use Rattle.ng_lists.specs.Rings.{ring_of};
 ghost use Rattle.ng_policy.specs.Bounce.{no_bounces};
 ghost use Rattle.ng_space.specs.Blocks.{BlockToken, HasBlock};
@@ -210,8 +209,6 @@ impl<N: Name, M: Mapper, P: Rules> Core<N, M, P> {
         ensures mapper { result.1 ≡ self.mapper }
         ensures settled { IsSettled self.seat }
         ensures blanked { IsBlanked self.seat }
-        ensures pages { sum_by (λ run. run.1) (M.runs self.mapper)
-            ≡ areas_in self.seat.desk.layout.runs + pages_of self.seat.desk.groups }
         ensures left { IsHandedBack N.facts self.seat (M.span self.mapper) (M.runs self.mapper) (M.refused self.mapper) }
     {
         let Core { works } = self;

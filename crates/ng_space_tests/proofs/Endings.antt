@@ -105,7 +105,7 @@ module _ (v w0 w1 w2 : View) (g : Group) (alone : groups_but 4120 (g ∷ []) ≡
 
     metas : AreMetasBlank w1 0
     metas zero b le lt lb al = c1.zero (4120 + b) (omega arith) (omega arith) (omega arith)
-    metas (suc i) b le lt lb al = c1.behind (4120 + 40 * suc i + b) (omega arith) (subst (λ (x : View). Sees x (4120 + 40 * suc i + b) 0) (sym r0.view) (blank (suc i) b (omega arith) lt lb al))
+    metas (suc i) b le lt lb al = c1.behind (4120 + 40 * suc i + b) (omega arith) (subst (λ (x : View). Sees x (4120 + 40 * suc i + b) 0) (sym r0.view) (inr (blank (suc i) b (omega arith) lt lb al)))
 
     module _ (c2 : IsCleared w1 8192 1024 w2) where
       cleared : Stands w2 page_runs []
