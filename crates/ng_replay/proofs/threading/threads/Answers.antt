@@ -19,9 +19,6 @@ finish-requires-clause-once g c = ArePostedOnce-ended c.requires.sound c.require
 pub finish-requires-clause-collected : goal.finish-requires-clause-collected
 finish-requires-clause-collected g c = AreCollected-ended c.requires.sound c.requires.boxes.receivers c.do_all-hands.ensures
 
-pub finish-requires-clause-todo : goal.finish-requires-clause-todo
-finish-requires-clause-todo g c = ?
-
 pub returns-clause-fits : goal.returns-clause-fits
 returns-clause-fits g c = Fits-ended c.requires.sound c.requires.boxes.receivers c.do_all-hands.ensures c.finish.ensures
 
