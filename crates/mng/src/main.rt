@@ -13,6 +13,7 @@ mod status;
 #[cfg(test)]
 mod tests;
 mod tool;
+mod verb;
 mod words;
 #[cfg(test)]
 mod words_tests;
