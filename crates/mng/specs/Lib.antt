@@ -3,5 +3,6 @@ pub mod Givens
 pub mod Statuses
 pub mod Inputs
 pub mod Closed
+pub mod Opened
 pub mod Tool
 pub mod Caps

@@ -5,6 +5,7 @@ mod asked;
 mod cap;
 mod choices;
 mod closed;
+mod ending;
 mod fresh;
 mod numbers;
 mod prepare;
