@@ -4,5 +4,6 @@ pub mod Statuses
 pub mod Inputs
 pub mod Closed
 pub mod Opened
+pub mod Causes
 pub mod Tool
 pub mod Caps

@@ -1,8 +1,7 @@
-ghost use Rattle.std.specs.Prelude.{◌≡◌, ◌≢◌, ◌↔◌, ◌⊎◌, ◌*◌, ◌≤◌, ◌<◌, ◌^◌, ℕ, []};
-ghost use Rattle.ng_mtrace.specs.Reads.{MeetsFault, TakesFaultless};
-ghost use Rattle.ng_mtrace.specs.declared.log_fault.LogFault.TheVariants as fault;
+ghost use Rattle.std.specs.Prelude.{◌≡◌, ◌⊎◌, ◌≤◌, ◌<◌, ◌^◌, []};
 ghost use Rattle.ng_terms.specs.Causes.{Rose};
-ghost use Rattle.mng.specs.Inputs.{HasNoLog, IsInForm};
+ghost use Rattle.mng.specs.Causes.{IsDue};
+ghost use Rattle.mng.specs.Inputs.{IsInForm};
 ghost use Rattle.mng.specs.Statuses.{IsEarly};
 ghost use Rattle.mng.specs.Tool.{WritesBeginning, WritesReport};
 ghost use Rattle.ng_policy.specs.Policy.{Counts, Keeps};
@@ -55,20 +54,8 @@ pub fn tool<I: Source, O: Sink, M: Mapper, C: Fn(Ask) -> u32 + Drop, K: Fn(Spare
         (counts_of (M.refused mapper)) (counts_of (M.refused result.1)) (M.runs result.1) result.2.items
         (O.written out.old) (O.written out.new) }
 
-    // The causes of the other statuses. The first event in the order of the input's bytes decides:
-    // no fault stands before a read that failed, and no other status comes behind one.
-    ensures usage { (result.0 ≡ Status.Usage) ↔ ¬ InLanguage Verb.Serial (texts_of words.now) }
-    ensures unread { result.0 ≡ Status.Usage → input.new ≡ input.old }
-    ensures read_fault { result.0 ≡ Status.ReadFault → Rose (I.faults input.old) (I.faults input.new) }
-    ensures undecided { result.0 ≡ Status.ReadFault
-        → TakesFaultless (I.left input.old) (I.left input.new) }
-    ensures unfailed { I.exact → result.0 ≢ Status.ReadFault
-        → I.faults input.new ≡ I.faults input.old }
-    ensures bad_line { (line : ℕ) → result.0 ≡ Status.BadLine line
-        → MeetsFault (fault.BadLine line) (I.left input.old) (I.left input.new) }
-    ensures limit { (line : ℕ) → result.0 ≡ Status.Limit line
-        → MeetsFault (fault.Limit line) (I.left input.old) (I.left input.new) }
-    ensures no_log { result.0 ≡ Status.NoLog → HasNoLog (I.left input.old) (I.left input.new) }
+    // The other statuses but `Host`, with their causes.
+    ensures due { IsDue Verb.Serial (texts_of words.now) I.left I.faults I.exact input.old input.new result.0 }
 
     // Words and an input in their languages are served, where no read, no write and no memory fails.
     ensures complete { InLanguage Verb.Serial (texts_of words.now) → IsInForm (I.left input.old)
