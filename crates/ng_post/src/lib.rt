@@ -15,3 +15,6 @@ pub use boxes::{Boxes, Door};
 pub use ending::finish;
 pub use mail::Mail;
 pub use opening::open;
+
+#[cfg(test)]
+mod tests;

@@ -1,0 +1,58 @@
+use Rattle.std.proofs.Common.{◌≡◌, ◌∙◌, ◌+◌, ◌<◌, ◌∷◌, [], ℕ, List, ap, arith, get_or, length, map, refl, rules, subst, sym}
+use Rattle.std.specs.declared.marker.Brand.{Brand}
+use Rattle.std.proofs.lemmas.List.{get_or-map, length-map}
+use Rattle.ng_post.specs.declared.boxes.Door.{Door}
+use Rattle.ng_post.specs.Doors.{IsDoorOf}
+use Rattle.ng_post.specs.Opened.{AreOpened, IsFresh, received_by}
+use Rattle.ng_terms.specs.declared.plan.Op.{Op}
+use Rattle.ng_terms.specs.declared.plan.Plan.{Plan}
+use Rattle.ng_post.specs.declared.boxes.Boxes.{Boxes}
+use Rattle.ng_post.proofs.tests.three_letters.Goals as goal
+
+-- a log of the plan has three ops
+three_ops : (logs : List (List Op)) (k : ℕ) → map length logs ≡ 3 ∷ 3 ∷ [] → k < 2 → (k < length logs) × (length (get_or logs k []) ≡ get_or (3 ∷ 3 ∷ []) k 0)
+three_ops logs k is lt =
+    let long : length logs ≡ 2 = sym (length-map logs length) ∙ ap length is in
+    let within : k < length logs = omega (arith, long, lt) in
+    (within, sym (get_or-map length logs k [] 0 within) ∙ ap (λ l. get_or l k 0) is)
+
+-- the door of a log that was opened
+opened_door : (plan : Plan) (boxes : Boxes Brand) (doors : List (Door Brand)) (k : ℕ) (door : Door Brand) → AreOpened plan boxes doors → k < length plan.logs → door ≡ get_or doors k door
+    → IsDoorOf boxes door × IsFresh door (length (get_or plan.logs k [])) (received_by plan.receivers k)
+opened_door plan boxes doors k door opened lt is = (
+  subst (λ x. IsDoorOf boxes x) (sym is) (opened.opened.each k door (omega (arith, opened.count, lt))),
+  subst (λ x. IsFresh x (length (get_or plan.logs k [])) (received_by plan.receivers k)) (sym is) (opened.fresh k door lt),
+)
+
+-- with three ops and so many hand-offs
+fresh_door : (plan : Plan) (door : Door Brand) (k letters : ℕ) → IsFresh door (length (get_or plan.logs k [])) (received_by plan.receivers k)
+    → length (get_or plan.logs k []) ≡ 3 → received_by plan.receivers k ≡ letters → IsFresh door 3 letters
+fresh_door plan door k letters fresh ops same = subst (λ n. IsFresh door n letters) ops (subst (λ n. IsFresh door (length (get_or plan.logs k [])) n) same fresh)
+
+pub hand_over-first-requires-clause-first : goal.hand_over-first-requires-clause-first
+hand_over-first-requires-clause-first g c = λ _.
+    (opened_door c.in_ok-plan.plan c.in-Ok.boxes c.in-Ok.doors.items 0 c.remove-first.result c.in-Ok.ensures
+    (three_ops c.in_ok-plan.plan.logs 0 c.in_ok-plan.ensures.ops (omega arith)).0 (c.remove-first.ensures.value ∙ c.remove-second.ensures.by_index.0 0 c.remove-first.result (omega arith))).0
+
+pub hand_over-first-requires-clause-second : goal.hand_over-first-requires-clause-second
+hand_over-first-requires-clause-second g c = λ _.
+    (opened_door c.in_ok-plan.plan c.in-Ok.boxes c.in-Ok.doors.items 1 c.remove-second.result c.in-Ok.ensures
+    (three_ops c.in_ok-plan.plan.logs 1 c.in_ok-plan.ensures.ops (omega arith)).0 c.remove-second.ensures.value).0
+
+pub hand_over-first-requires-clause-first_fresh : goal.hand_over-first-requires-clause-first_fresh
+hand_over-first-requires-clause-first_fresh g c = λ _.
+    let ops = three_ops c.in_ok-plan.plan.logs 0 c.in_ok-plan.ensures.ops (omega arith) in
+    fresh_door c.in_ok-plan.plan c.remove-first.result 0 0
+    (opened_door c.in_ok-plan.plan c.in-Ok.boxes c.in-Ok.doors.items 0 c.remove-first.result c.in-Ok.ensures ops.0
+    (c.remove-first.ensures.value ∙ c.remove-second.ensures.by_index.0 0 c.remove-first.result (omega arith))).1
+    ops.1 (ap (λ l. received_by l 0) c.in_ok-plan.ensures.receivers)
+
+pub hand_over-first-requires-clause-second_fresh : goal.hand_over-first-requires-clause-second_fresh
+hand_over-first-requires-clause-second_fresh g c = λ _.
+    let ops = three_ops c.in_ok-plan.plan.logs 1 c.in_ok-plan.ensures.ops (omega arith) in
+    fresh_door c.in_ok-plan.plan c.remove-second.result 1 3
+    (opened_door c.in_ok-plan.plan c.in-Ok.boxes c.in-Ok.doors.items 1 c.remove-second.result c.in-Ok.ensures ops.0 c.remove-second.ensures.value).1
+    ops.1 (ap (λ l. received_by l 1) c.in_ok-plan.ensures.receivers)
+
+pub hand_over-first-requires-clause-receivers : goal.hand_over-first-requires-clause-receivers
+hand_over-first-requires-clause-receivers g c = λ _. c.in-Ok.ensures.receivers ∙ c.in_ok-plan.ensures.receivers
