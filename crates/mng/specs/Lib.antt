@@ -4,4 +4,3 @@ pub mod Statuses
 pub mod Inputs
 pub mod Closed
 pub mod Tool
-pub mod Caps
