@@ -2,7 +2,6 @@
 #![tactic(auto)]
 
 mod asked;
-mod cap;
 mod choices;
 mod closed;
 mod ending;

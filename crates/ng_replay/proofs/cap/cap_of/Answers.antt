@@ -2,9 +2,9 @@ use Rattle.std.proofs.Common.{ℕ, List, [], ◌∷◌, ◌++◌, length, slice_
 use Rattle.std.proofs.lemmas.List.{take_all}
 use Rattle.ng_replay.specs.Serving.{IsCapOf}
 use Rattle.ng_terms.specs.declared.plan.Op.{Op}
-use Rattle.mng.specs.Caps.{IsCapIn}
-use Rattle.mng.proofs.CapLemmas.{capped_more, take_more, with_logs}
-use Rattle.mng.proofs.cap.cap_of.Goals as goal
+use Rattle.ng_replay.specs.Caps.{IsCapIn}
+use Rattle.ng_replay.proofs.CapLemmas.{capped_more, take_more, with_logs}
+use Rattle.ng_replay.proofs.cap.cap_of.Goals as goal
 
 pub loop-ops-preserved : goal.loop-ops-preserved
 loop-ops-preserved c =
