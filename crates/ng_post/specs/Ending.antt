@@ -28,7 +28,8 @@ pub record LeadsTo (count log box : ℕ) (v : View) : Type 0 where
   pub known : length v.known ≡ log
 
 -- the passes of a log's door may be taken in
-pub record MayEnd {N : Type 0} (boxes : Boxes N) (leads : List (Pass (Letter N) View)) (log : ℕ) (own : Pass (Letter N) View) (to : List (Pass (Letter N) View)) : Type 0 where
+pub record MayEnd {N : Type 0} (boxes : Boxes N) (leads : List (Pass (Letter N) View)) (log : ℕ) (own : Pass (Letter N) View)
+    (to : List (Pass (Letter N) View)) : Type 0 where
   pub log_in : log < vec_len boxes.boxes
   pub count : length leads ≡ vec_len boxes.boxes
   pub ways : length to ≡ vec_len boxes.boxes

@@ -30,7 +30,7 @@ pub struct Door<N: Name> {
     pub(crate) got: Vec<(u64, Option<u64>)>,
     /// What was taken out of the box, in order.
     pub(crate) arrived: Vec<(u64, Option<u64>)>,
-    /// In the first door, the pass of each box that takes the others in at the end. Boxes are shared, and
-    /// a pass can't be.
+    /// In the first door, the pass of each box that takes the others in at the end. Boxes are
+    /// shared, and a pass can't be.
     pub(crate) leads: Vec<Key<N>>,
 }

@@ -1,5 +1,6 @@
 //! Collecting.
-ghost use Rattle.std.specs.Prelude.{◌≡◌, ◌∷◌, [], ◌++◌, ◌<◌, IfSome, None, map, vec_capacity, vec_len};
+ghost use Rattle.std.specs.Prelude.{◌≡◌, ◌∷◌, [], ◌++◌, ◌<◌, IfSome, None, map};
+ghost use Rattle.std.specs.Prelude.{vec_capacity, vec_len};
 ghost use Rattle.std.specs.List.Sorted.{IsPermutation};
 ghost use Rattle.ng_post.specs.Doors.{IsDoorOf};
 ghost use Rattle.ng_post.specs.Letters.{address_of, pair_of};
@@ -40,7 +41,7 @@ impl<N: Name> Boxes<N> {
         unreachable!()
     }
 
-    /// Takes the next letter out of the door's own box, where there is one and the door has room for it.
+    /// Takes the next letter out of the door's own box, where there is one and there is room for it.
     fn take_in(&self, door: &mut Door<N>) -> bool
         requires door { IsDoorOf self.now door.old }
         ensures door { IsDoorOf self.now door.new }

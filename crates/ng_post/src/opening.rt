@@ -64,8 +64,8 @@ fn open_doors<N: Name>(
     requires count { vec_len boxes.now.boxes ≡ length plan.now.logs }
     requires leads { AreLeadsAfter boxes.now 0 0 leads.old.items }
     ensures doors { IfOk result (λ doors. AreNewDoors plan.now boxes.now doors.items) }
-    ensures leads { IfOk result (λ doors.
-        AreLeadsAfter boxes.now (vec_len boxes.now.boxes) (vec_len boxes.now.boxes) leads.new.items) }
+    ensures leads { IfOk result (λ doors. AreLeadsAfter boxes.now
+        (vec_len boxes.now.boxes) (vec_len boxes.now.boxes) leads.new.items) }
 {
     let mut doors = Vec::with_capacity(alloc, plan.logs.len())?;
     for (log, ops) in plan.logs.as_slice().iter().enumerate() {
@@ -89,7 +89,8 @@ fn open_door<N: Name>(
     ensures door { IfOk result (λ door. IsNewDoor boxes.now log door) }
     ensures fresh { IfOk result (λ door.
         IsFresh door ops (received_by boxes.now.receivers.items log)) }
-    ensures leads { IfOk result (λ door. AreLeadsAfter boxes.now (log + 1) (log + 1) leads.new.items) }
+    ensures leads { IfOk result (λ door.
+        AreLeadsAfter boxes.now (log + 1) (log + 1) leads.new.items) }
 {
     let letters = received(boxes.receivers.as_slice(), log as u32);
     let own = boxes.boxes[log].another::<Reads>(&mut leads[log]);
@@ -115,7 +116,8 @@ fn open_ways<N: Name>(
 ) -> Result<Vec<Key<N>>, AllocError>
     requires leads { AreLeadsAfter boxes.now log (log + 1) leads.old.items }
     ensures ways { IfOk result (λ ways. AreWays boxes.now log ways.items) }
-    ensures leads { IfOk result (λ ways. AreLeadsAfter boxes.now (log + 1) (log + 1) leads.new.items) }
+    ensures leads { IfOk result (λ ways.
+        AreLeadsAfter boxes.now (log + 1) (log + 1) leads.new.items) }
 {
     let mut ways = Vec::with_capacity(alloc, boxes.boxes.len())?;
     for b in 0..boxes.boxes.len() {

@@ -12,8 +12,8 @@ use ng_space::Name;
 use std::sync::Wait;
 
 impl<N: Name> Boxes<N> {
-    /// Posts mail under a number, into the box of the log that receives the number. A full box is tried
-    /// again.
+    /// Posts mail under a number, into the box of the log that receives the number. A full box is
+    /// tried again.
     pub fn post<R: Wait>(&self, rt: &R, door: &mut Door<N>, number: u64, mail: Mail<N>)
         requires door { IsDoorOf self.now door.old }
         requires number { IsNumber self.now.receivers.items number }

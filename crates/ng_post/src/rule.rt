@@ -84,7 +84,8 @@ impl Join<View> for Ends {
 pub struct Totals;
 
 impl<N: Name> Lesson<Letter<N>, View> for Totals {
-    ghost fact = { λ v items. length v.known ≡ v.made → AreAllOf v.known (v.got ++ map note_of items) };
+    ghost fact = { λ v items. length v.known ≡ v.made
+        → AreAllOf v.known (v.got ++ map note_of items) };
 }
 
 /// A log's box.

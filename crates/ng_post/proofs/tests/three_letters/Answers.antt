@@ -1,4 +1,4 @@
-use Rattle.std.proofs.Common.{◌≡◌, ◌∙◌, ◌+◌, ◌<◌, ◌∷◌, [], ℕ, List, ap, arith, get_or, length, map, refl, rules, subst, sym}
+use Rattle.std.proofs.Common.{◌≡◌, ◌∙◌, ◌<◌, ◌∷◌, [], ℕ, List, ap, arith, get_or, length, map, subst, sym}
 use Rattle.std.specs.declared.marker.Brand.{Brand}
 use Rattle.std.proofs.lemmas.List.{get_or-map, length-map}
 use Rattle.ng_post.specs.declared.boxes.Door.{Door}
