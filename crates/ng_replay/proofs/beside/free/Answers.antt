@@ -11,4 +11,4 @@ returns-then-eq-clause-rest g c = KeepsRest-same c.args.hand.now c.leave.new.han
 
 pub returns-in-Some-clause-others : goal.returns-in-Some-clause-others
 returns-in-Some-clause-others g c =
-    λ other apart f. HasFramed-beside _ _ _ c.free_framed.ensures.frames c.free_framed.ensures.others other (subst (λ source. IsApartFrom source other) c.in-Some.is apart) f
+    λ other apart f. HasFramed-beside _ _ _ c.free_framed.ensures.frames.number c.free_framed.ensures.others other (subst (λ source. IsApartFrom source other) c.in-Some.is apart) f

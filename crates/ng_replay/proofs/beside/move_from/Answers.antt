@@ -17,13 +17,13 @@ returns-in-Ok-clause-entries g c =
 
 pub returns-in-Ok-clause-framed : goal.returns-in-Ok-clause-framed
 returns-in-Ok-clause-framed g c =
-    HasFramed-beside _ _ _ c.free_framed.ensures.frames c.free_framed.ensures.others c.in-Ok.block
+    HasFramed-beside _ _ _ c.free_framed.ensures.frames.number c.free_framed.ensures.others c.in-Ok.block
     (IsApart-flip c.args.old.slot c.in-Ok.block.slot (c.in-Ok.ensures.made.fresh.blocks c.args.old c.requires.framed.has)) c.in-Ok.ensures.made.framed
 
 pub returns-in-Ok-clause-others : goal.returns-in-Ok-clause-others
 returns-in-Ok-clause-others g c =
-    λ other apart f. HasFramed-beside _ _ _ c.free_framed.ensures.frames c.free_framed.ensures.others other apart
-    (HasFramed-kept _ _ c.malloc.ensures.entered.number c.malloc.ensures.slots other f)
+    λ other apart f. HasFramed-beside c.malloc.new.hand c.free_framed.new.hand c.args.old.slot c.free_framed.ensures.frames.number c.free_framed.ensures.others other apart
+    (HasFramed-kept c.args.hand.now c.malloc.new.hand c.malloc.ensures.entered.number c.malloc.ensures.slots other f)
 
 pub returns-in-Ok-clause-apart : goal.returns-in-Ok-clause-apart
 returns-in-Ok-clause-apart g c = λ other apart f. c.in-Ok.ensures.made.fresh.blocks other f.has

@@ -25,8 +25,8 @@ returns-in-Sent-clause-collects g c =
       taken = Some c.in-Sent.parcel.block.at;
       source_is = ap (λ (b : BlockToken). Some b.at) c.receive.ensures.block;
       got = rw (ap address_of c.in-Sent.is) at c.collect.ensures.got;
-      counted = c.receive.ensures.taken;
-      unsent = c.receive.ensures.sent;
+      counted = c.receive.ensures.leaves.rest.taken;
+      unsent = c.receive.ensures.leaves.rest.sent;
     })
 
 pub returns-in-Sent-clause-apart : goal.returns-in-Sent-clause-apart
@@ -35,4 +35,4 @@ returns-in-Sent-clause-apart g c = AreApartFrom-fresh c.args.hand.now c.args.row
 pub returns-in-Sent-clause-held : goal.returns-in-Sent-clause-held
 returns-in-Sent-clause-held g c =
     AreHeld-kept c.args.hand.now c.receive.new.hand c.args.row.now
-    (λ op block is framed. HasFramed-kept _ _ c.receive.ensures.frames.number c.receive.ensures.slots block framed) c.requires.held
+    (λ op block is framed. HasFramed-kept _ _ c.receive.ensures.book.number c.receive.ensures.slots block framed) c.requires.held
