@@ -6,10 +6,14 @@ use Rattle.ng_mtrace.specs.Reads.{MeetsFault}
 use Rattle.ng_mtrace.specs.Sections.{logs_of}
 use Rattle.ng_mtrace.specs.declared.log_fault.LogFault.{LogFault}
 use Rattle.ng_mtrace.specs.declared.log_fault.LogFault.TheVariants as fault
+use Rattle.ng_terms.specs.Causes.{Rose}
+use Rattle.mng.specs.Causes.{IsDue}
 use Rattle.mng.specs.Inputs.{HasNoLog, IsInForm}
-use Rattle.mng.specs.Statuses.{IsEarly, IsLate}
+use Rattle.mng.specs.Statuses.{IsEarly}
+use Rattle.mng.specs.Words.{InLanguage}
 use Rattle.mng.specs.declared.status.Status.{Status}
 use Rattle.mng.specs.declared.status.Status.TheVariants.{Done, Usage, ReadFault, BadLine, Limit, NoLog, WriteFault, Host}
+use Rattle.mng.specs.declared.verb.Verb.{Verb}
 
 -- an input without a fault meets none
 faultless : (what : LogFault) (bytes : List ℕ) (now : Option (List ℕ)) → first_fault bytes ≡ None → MeetsFault what (Some bytes) now → ⊥
@@ -37,28 +41,16 @@ some-log bytes (Some left) some reads =
 pub has-log : (before now : Option (List ℕ)) → IsInForm before → HasNoLog before now → ⊥
 has-log before now form reads = some-log form.bytes now form.some (rw (← form.told) reads)
 
--- before the first heap call, only the host can then be the cause
-pub early-complete : (status : Status) (before now : Option (List ℕ)) → IsEarly status → IsInForm before → status ≢ Usage → status ≢ ReadFault
-    → ((line : ℕ) → status ≡ BadLine line → MeetsFault (fault.BadLine line) before now)
-    → ((line : ℕ) → status ≡ Limit line → MeetsFault (fault.Limit line) before now)
-    → (status ≡ NoLog → HasNoLog before now)
-    → (status ≡ Done) ⊎ (status ≡ Host)
-early-complete Done before now early form words read bad limit none = absurd early
-early-complete Usage before now early form words read bad limit none = absurd (words refl)
-early-complete ReadFault before now early form words read bad limit none = absurd (read refl)
-early-complete (BadLine line) before now early form words read bad limit none = absurd (meets-none (fault.BadLine line) before now form (bad line refl))
-early-complete (Limit line) before now early form words read bad limit none = absurd (meets-none (fault.Limit line) before now form (limit line refl))
-early-complete NoLog before now early form words read bad limit none = absurd (has-log before now form (none refl))
-early-complete WriteFault before now early form words read bad limit none = absurd early
-early-complete Host before now early form words read bad limit none = inr refl
-
--- behind the last one, only a write
-pub late-complete : (status : Status) → IsLate status → status ≢ WriteFault → (status ≡ Done) ⊎ (status ≡ Host)
-late-complete Done late written = inl refl
-late-complete Usage late written = absurd late
-late-complete ReadFault late written = absurd late
-late-complete (BadLine line) late written = absurd late
-late-complete (Limit line) late written = absurd late
-late-complete NoLog late written = absurd late
-late-complete WriteFault late written = absurd (written refl)
-late-complete Host late written = absurd late
+-- ---- a status, and what it is due to
+module _ {X : Type 0} (verb : Verb) (texts : List (List ℕ)) (left : X → Option (List ℕ)) (faults : X → ℕ) (exact : Type 0) (before now : X) where
+  -- before the first heap call, only the host can then be the cause
+  pub early-complete : (status : Status) → IsEarly status → IsDue verb texts left faults exact before now status
+      → InLanguage verb texts → IsInForm (left before) → ¬ Rose (faults before) (faults now) → (status ≡ Done) ⊎ (status ≡ Host)
+  early-complete Done early due words form reads = absurd early
+  early-complete Usage early due words form reads = absurd (due.usage.0 refl words)
+  early-complete ReadFault early due words form reads = absurd (reads (due.read_fault refl))
+  early-complete (BadLine line) early due words form reads = absurd (meets-none (fault.BadLine line) (left before) (left now) form (due.bad_line line refl))
+  early-complete (Limit line) early due words form reads = absurd (meets-none (fault.Limit line) (left before) (left now) form (due.limit line refl))
+  early-complete NoLog early due words form reads = absurd (has-log (left before) (left now) form (due.no_log refl))
+  early-complete WriteFault early due words form reads = absurd early
+  early-complete Host early due words form reads = inr refl

@@ -1,6 +1,6 @@
 -- How a run ends: what the close of its heap and the replies tell together.
 use Rattle.std.proofs.Common.{◌≡◌, ℕ, zero, suc, ◌<◌, ◌≤◌, max, Bool, false, List, [], ◌∷◌, ◌++◌, length, refl, sym, ap, ◌∙◌, subst, inl, inr, ⊎_elim, arith}
-use Rattle.std.specs.Prelude.{All, sum_by}
+use Rattle.std.specs.Prelude.{All, Option, sum_by}
 use Rattle.std.proofs.lemmas.Bool.{cases_lt}
 use Rattle.std.proofs.lemmas.List.Elements.{All-head, All-tail}
 use Rattle.ng_space.specs.Leaving.{AreFramed}
@@ -16,7 +16,7 @@ use Rattle.ng_space.specs.Callers.{Caller}
 use Rattle.ng_space.specs.Closings.{HasOwnBook, IsClosed, books_of, views_of}
 use Rattle.ng_space.specs.Names.{Facts}
 use Rattle.ng_space.proofs.Gathering.{views}
-use Rattle.ng_terms.specs.Accounts.{Account, IsAsked, IsMostBound, pages_for}
+use Rattle.ng_terms.specs.Accounts.{Account, Counts, IsAsked, IsMostBound, pages_for}
 use Rattle.ng_terms.specs.Calls.{Fits}
 use Rattle.ng_terms.specs.Reports.{report}
 use Rattle.ng_terms.specs.declared.entry.Entry.{Entry}
@@ -26,8 +26,10 @@ use Rattle.ng_view.specs.Lists.{Among}
 use Rattle.ng_view.specs.declared.view.Book.{Book}
 use Rattle.ng_view.specs.declared.view.View.{View}
 use Rattle.mng.specs.Closed.{IsImageOf, entries_of, number_at, program_secret}
-use Rattle.mng.specs.Tool.{Runs}
+use Rattle.mng.specs.Opened.{counts_at, span_at}
+use Rattle.mng.specs.Tool.{Ends, Runs}
 use Rattle.mng.specs.declared.closed.Closed.{Closed}
+use Rattle.mng.specs.declared.status.Status.{Status}
 
 -- the entries of the hands' books are those of the hands
 entries-books : (hands : List Caller) → entries_of (books_of hands) ≡ books_of_hands hands
@@ -56,14 +58,13 @@ booked_view (hand ∷ hands) u own (inl same) =
 booked_view (hand ∷ hands) u own (inr there) = booked_view hands u (All-tail HasOwnBook hand hands own) there
 
 -- ---- the most refused pages are bounded as an account wants it
-most_of_cap : (plan : Plan) (cap first before now : ℕ) → IsCapOf cap plan → before ≡ first → now ≤ max first (max 512 (pages_for cap))
-    → IsMostBound plan plain before now
-most_of_cap plan cap first before now is same most = ⊎_elim
+most_of_cap : (plan : Plan) (cap before now : ℕ) → IsCapOf cap plan → now ≤ max before (max 512 (pages_for cap)) → IsMostBound plan plain before now
+most_of_cap plan cap before now is most = ⊎_elim
     (λ (none : cap ≡ 0). inl (omega (arith, none)))
     (λ (asked : IsAsked plan plain cap). ⊎_elim
-        (λ (more : max before 512 < now). inr (cap, asked, omega (arith, same)))
-        (λ (few : now ≤ max before 512). inl few)
-        (cases_lt (max before 512) now))
+    (λ (more : max before 512 < now). inr (cap, asked, omega arith))
+    (λ (few : now ≤ max before 512). inl few)
+    (cases_lt (max before 512) now))
     is.asked
 
 -- ---- the books handed back are numbered by the logs
@@ -73,16 +74,15 @@ numbers-books (hand ∷ hands) zero below = refl
 numbers-books (hand ∷ hands) (suc log) below = numbers-books hands log (omega arith)
 
 -- ---- the words that a heap left are an image that goes with the history of its views
-module _ (facts : Facts) (span : Span) (lock : View) (hands : List Caller) (live : List mapper.Run) (refused : Refusals) (words : List ℕ) where
-  abbrev image_closed : (before : List mapper.Run) (counted : Refusals) → IsFreshMapper facts.start span before counted
-      → facts.start.secret ≡ program_secret → (closed : IsClosed facts.start words lock hands) → AreAllFramed hands
-      → IsHandedBack facts lock span live refused → IsImageOf program_secret span words live closed.history.calls
-  image_closed before counted fresh secret closed framed left = record {
+module _ (facts : Facts) (lock : View) (hands : List Caller) (span : Span) (live : List mapper.Run) (refused : Refusals) (words : List ℕ) where
+  abbrev image_closed : facts.start.secret ≡ program_secret → (closed : IsClosed facts.start words lock hands) → AreAllFramed hands
+      → IsHandedBack facts lock span live refused → IsImageOf program_secret (span_at facts.start) words live closed.history.calls
+  image_closed secret closed framed left = record {
     start = facts.start;
     secret_is = secret;
-    pages_are = sym fresh.size;
-    lower_is = sym fresh.lower;
-    upper_is = sym fresh.upper;
+    pages_are = refl;
+    lower_is = refl;
+    upper_is = refl;
     lock = lock;
     hands = views hands;
     leads = left.leads;
@@ -100,57 +100,70 @@ module _ (facts : Facts) (span : Span) (lock : View) (hands : List Caller) (live
     blocks_are = closed.history.live;
   }
 
--- the mapper that a heap hands back has the bounds of the one that it was opened with
-pub same_span : (facts : Facts) (lock : View) (span span' : Span) (before live : List mapper.Run) (counted refused : Refusals)
-    → IsFreshMapper facts.start span before counted → IsHandedBack facts lock span' live refused → span' ≡ span
-same_span facts lock span span' before live counted refused fresh left =
-    let lower = left.lower ∙ sym fresh.lower in let upper = left.upper ∙ sym fresh.upper in let size = left.size ∙ sym fresh.size in λ i. record { lower = lower i; upper = upper i; size = size i }
-
 -- ---- a run whose heap was closed
 module _ {X : Type 0} (span : X → Span) (runs : X → List mapper.Run) (refused : X → Refusals) (plan : Plan) (calls_shown : Bool) (facts : Facts)
-    (lock : View) (hands : List Caller) (old ended back : X) (heap : Closed) where
-  -- the account of the replies and books in a space of this size, and the image over its history
-  abbrev IsTold : ℕ → List (List Reply) → List (List Entry) → Type 0
-  IsTold size replies books = (account : Account plan plain replies books size (counts_of (refused old)) (counts_of (refused back)))
-      × IsImageOf program_secret (span old) heap.image.words (runs back) account.history
+    (lock : View) (hands : List Caller) (ended back : X) (heap : Closed) where
+  -- the account of the replies and books, and the image over its history
+  abbrev IsTold : List (List Reply) → List (List Entry) → Type 0
+  IsTold replies books = (account : Account plan plain replies books facts.start.pages (counts_at facts) (counts_of (refused back)))
+      × IsImageOf program_secret (span_at facts.start) heap.image.words (runs back) account.history
 
-  pub runs_closed : (replies : List (List Reply)) → facts.start.secret ≡ program_secret → IsFreshMapper facts.start (span old) (runs old) (refused old)
-      → (refused old).most ≡ facts.most → IsCapOf facts.start.cap plan → back ≡ ended → heap.image.pages ≡ facts.start.pages
+  pub runs_closed : (replies : List (List Reply)) → facts.start.secret ≡ program_secret → IsCapOf facts.start.cap plan
+      → back ≡ ended → heap.image.pages ≡ facts.start.pages
       → Fits plan plain replies → AreBooks plan replies hands → AreAllFramed hands
       → IsClosed facts.start heap.image.words lock hands → IsHandedBack facts lock (span ended) (runs ended) (refused ended)
       → heap.books ≡ books_of hands → heap.replies ≡ replies
       → (closed_before closed : List Closed) → closed_before ≡ [] → closed ≡ closed_before ++ heap ∷ []
       → (text_before text : List ℕ) (shown : List (List Reply)) (pages : ℕ) → text_before ≡ [] → text ≡ text_before ++ report plan plain calls_shown shown pages
       → shown ≡ replies → pages ≡ sum_by (λ run. run.1) (runs back)
-      → Runs plan calls_shown (span old) (counts_of (refused old)) (counts_of (refused back)) (runs back) closed text
-  runs_closed replies secret fresh most cap same image_pages fits books framed ends left books_are replies_are
+      → Runs plan calls_shown (span_at facts.start) (counts_at facts) (counts_of (refused back)) (runs back) closed text
+  runs_closed replies secret cap same image_pages fits books framed ends left books_are replies_are
       closed_before closed none closed_is text_before text shown pages no_text text_is shown_is pages_are =
       let left_back : IsHandedBack facts lock (span back) (runs back) (refused back) =
       subst (λ (m : X). IsHandedBack facts lock (span m) (runs m) (refused m)) (sym same) left in
-      let left_old : IsHandedBack facts lock (span old) (runs back) (refused back) =
-      subst (λ (s : Span). IsHandedBack facts lock s (runs back) (refused back))
-      (same_span facts lock (span old) (span back) (runs old) (runs back) (refused old) (refused back) fresh left_back) left_back in
-      let told : IsTold facts.start.pages replies (books_of_hands hands) = (
-        account_closed plan replies facts.start lock hands (counts_of (refused old)) (counts_of (refused back)) fits books ends.words.lawful.range
-            ends.history ends.excuses left_back.leads left_back.bookless ends.own (sym fresh.count) left_back.counted
-            (most_of_cap plan facts.start.cap facts.most (refused old).most (refused back).most cap most left_back.most),
-        image_closed facts (span old) lock hands (runs back) (refused back) heap.image.words (runs old) (refused old) fresh secret ends framed left_old,
+      let told : IsTold replies (books_of_hands hands) = (
+        account_closed plan replies facts.start lock hands (counts_at facts) (counts_of (refused back)) fits books ends.words.lawful.range
+            ends.history ends.excuses left_back.leads left_back.bookless ends.own refl left_back.counted
+            (most_of_cap plan facts.start.cap facts.most (refused back).most cap left_back.most),
+        image_closed facts lock hands (span back) (runs back) (refused back) heap.image.words secret ends framed left_back,
       ) in
       let entries_are : entries_of heap.books ≡ books_of_hands hands = ap entries_of books_are ∙ entries-books hands in
-      let told_heap : IsTold (span old).size heap.replies (entries_of heap.books) =
-      subst (λ (rs : List (List Reply)). IsTold (span old).size rs (entries_of heap.books)) (sym replies_are)
-      (subst (λ (es : List (List Entry)). IsTold (span old).size replies es) (sym entries_are)
-      (subst (λ (size : ℕ). IsTold size replies (books_of_hands hands)) (sym fresh.size) told)) in
+      let told_heap : IsTold heap.replies (entries_of heap.books) =
+      subst (λ (rs : List (List Reply)). IsTold rs (entries_of heap.books)) (sym replies_are)
+      (subst (λ (es : List (List Entry)). IsTold replies es) (sym entries_are) told) in
       let reported : text ≡ report plan plain calls_shown heap.replies (sum_by (λ (run : mapper.Run). run.1) (runs back)) =
       text_is ∙ ap (λ (t : List ℕ). t ++ report plan plain calls_shown shown pages) no_text
       ∙ ap (λ (rs : List (List Reply)). report plan plain calls_shown rs pages) (shown_is ∙ sym replies_are)
       ∙ ap (λ (n : ℕ). report plan plain calls_shown heap.replies n) pages_are in record {
         heap = heap;
         one = closed_is ∙ ap (λ (before : List Closed). before ++ heap ∷ []) none;
-        pages = image_pages ∙ sym fresh.size;
+        pages = image_pages;
         numbers = λ log below. ap (λ (bs : List book.Shown). number_at bs log) books_are
             ∙ numbers-books hands log (omega (arith, books.count)) ∙ books.numbers log below;
         account = told_heap.0;
         image = told_heap.1;
         reported = reported;
       }
+
+-- ---- the mapper that a heap was opened over, and the one that it hands back
+pub span_left : (facts : Facts) (lock : View) (span : Span) (live : List mapper.Run) (refused : Refusals) → IsHandedBack facts lock span live refused → span ≡ span_at facts.start
+span_left facts lock span live refused left =
+    let lower = left.lower in let upper = left.upper in let size = left.size in λ i. record { lower = lower i; upper = upper i; size = size i }
+
+pub span_opened : (facts : Facts) (span : Span) (live : List mapper.Run) (refused : Refusals) → IsFreshMapper facts.start span live refused → span ≡ span_at facts.start
+span_opened facts span live refused fresh =
+    let lower = fresh.lower in let upper = fresh.upper in let size = fresh.size in λ i. record { lower = lower i; upper = upper i; size = size i }
+
+counts_opened : (facts : Facts) (span : Span) (live : List mapper.Run) (refused : Refusals) → IsFreshMapper facts.start span live refused → refused.most ≡ facts.most → counts_of refused ≡ counts_at facts
+counts_opened facts span live refused fresh most =
+    let count = fresh.count in λ i. record { refusals = count i; most = most i }
+
+-- how a run ends, told by the mapper that its heap was opened over
+pub ends_opened : (plan : Plan) (calls_shown : Bool) (facts : Facts) (span : Span) (before live : List mapper.Run) (refused : Refusals) (now : Counts)
+    (closed : List Closed) (written written' : Option (List ℕ)) (status : Status) → IsFreshMapper facts.start span before refused → refused.most ≡ facts.most
+    → Ends plan calls_shown (span_at facts.start) (counts_at facts) now live closed written written' status
+    → Ends plan calls_shown span (counts_of refused) now live closed written written' status
+ends_opened plan calls_shown facts span before live refused now closed written written' status fresh most ends =
+    subst (λ (s : Span). Ends plan calls_shown s (counts_of refused) now live closed written written' status) (sym (span_opened facts span before refused fresh))
+    (subst (λ (c : Counts). Ends plan calls_shown (span_at facts.start) c now live closed written written' status)
+    (sym (counts_opened facts span before refused fresh most)) ends)

@@ -2,13 +2,15 @@
 use Rattle.std.proofs.Common.{◌≡◌, ℕ, ◌+◌, ◌≤◌, Bool, true, false, List, [], ◌∷◌, length, take, drop, ◌-◌, length-drop, slice_index_or, String, Global, string_bytes, Option, Some, None, refl, sym, ap, subst, ◌∙◌, arith, cond}
 use Rattle.std.specs.Prelude.{codes, count_by}
 use Rattle.std.specs.Option.{option_and_then, unwrap_or}
-use Rattle.std.specs.List.{filter_map}
+use Rattle.std.specs.List.{filter_map, flat_map}
 use Rattle.std.specs.Str.{bytes_eq}
 use Rattle.std.proofs.lemmas.List.{take_all}
 use Rattle.std.proofs.lemmas.Slice.Eq.{bytes_eq-Decides}
-use Rattle.mng.specs.Words.{texts_of, is_calls, pages_text, refuse_text, IsPages, IsList, MeansAtMostOne, Asked, AsksSpace, InLanguage, IsCommand, ShowsCalls}
+use Rattle.mng.specs.Words.{texts_of, name_of, words_of, is_calls, pages_text, refuse_text, IsPages, IsList, MeansAtMostOne, Asked, AsksSpace, InLanguage, IsCommand, ShowsCalls}
 use Rattle.mng.specs.Givens.{calls_added, pair_added, options_added, given_of}
 use Rattle.mng.specs.declared.asked.Given.{Given}
+use Rattle.mng.specs.declared.verb.Verb.{Verb}
+use Rattle.mng.specs.declared.verb.Verb.TheVariants.{Serial, Replay}
 use Rattle.mng.proofs.OptionLemmas.{one_if, chosen, AreOptions, options-taken, options_added-are, options_added-calls, means-from_Adds, adds-from_means}
 
 nothing : Given
@@ -18,38 +20,38 @@ nothing = record { calls_shown = false; pages = None; refuse = None }
 asked_of : Given → Asked
 asked_of given = record { calls_shown = given.calls_shown; pages = unwrap_or given.pages 4096; refuse = unwrap_or given.refuse [] }
 
-command-from_options : (name : List ℕ) (texts : List (List ℕ)) (given : Given) → bytes_eq name (codes "serial") ≡ true → AreOptions nothing texts given → IsCommand (name ∷ texts) (asked_of given)
+command-from_options : (verb : Verb) (name : List ℕ) (texts : List (List ℕ)) (given : Given) → bytes_eq name (name_of verb) ≡ true → AreOptions nothing texts given → IsCommand verb (name ∷ texts) (asked_of given)
 unfolding nothing asked_of
-command-from_options name texts given named are =
+command-from_options verb name texts given named are =
     let calls : count_by is_calls are.options + 0 ≡ one_if given.calls_shown = are.extends.calls in
     record {
       options = are.options;
-      words = ap (λ (n : List ℕ). n ∷ texts) ((bytes_eq-Decides name (codes "serial")).0 named) ∙ ap (λ (ts : List (List ℕ)). codes "serial" ∷ ts) are.words;
+      words = ap (λ (n : List ℕ). n ∷ texts) ((bytes_eq-Decides name (name_of verb)).0 named) ∙ ap (λ (ts : List (List ℕ)). name_of verb ∷ ts) are.words;
       calls_shown = omega arith;
       pages = means-from_Adds IsPages 4096 (filter_map pages_text are.options) given.pages are.extends.pages;
       refuse = means-from_Adds IsList [] (filter_map refuse_text are.options) given.refuse are.extends.refuse;
     }
 
-IsCommand-from_Some : (texts : List (List ℕ)) (given : Given) → Some given ≡ given_of texts → IsCommand texts (asked_of given)
+IsCommand-from_Some : (verb : Verb) (texts : List (List ℕ)) (given : Given) → Some given ≡ given_of verb texts → IsCommand verb texts (asked_of given)
 unfolding given_of nothing
-IsCommand-from_Some [] given is = absurd (cc)
-IsCommand-from_Some (name ∷ texts) given is = by_name (bytes_eq name (codes "serial")) refl is
+IsCommand-from_Some verb [] given is = absurd (cc)
+IsCommand-from_Some verb (name ∷ texts) given is = by_name (bytes_eq name (name_of verb)) refl is
   where
-    by_name : (a : Bool) → bytes_eq name (codes "serial") ≡ a → Some given ≡ cond a (options_added nothing texts) None → IsCommand (name ∷ texts) (asked_of given)
-    by_name true named rest = command-from_options name texts given named (options-taken nothing given texts (sym rest))
+    by_name : (a : Bool) → bytes_eq name (name_of verb) ≡ a → Some given ≡ cond a (options_added nothing texts) None → IsCommand verb (name ∷ texts) (asked_of given)
+    by_name true named rest = command-from_options verb name texts given named (options-taken nothing given texts (sym rest))
     by_name false named rest = absurd (cc)
 
 -- what the words give, as the contracts say it
-pub AsksSpace-from_Some : (texts : List (List ℕ)) (given : Given) → Some given ≡ given_of texts → AsksSpace texts (unwrap_or given.pages 4096) (unwrap_or given.refuse [])
+pub AsksSpace-from_Some : (verb : Verb) (texts : List (List ℕ)) (given : Given) → Some given ≡ given_of verb texts → AsksSpace verb texts (unwrap_or given.pages 4096) (unwrap_or given.refuse [])
 unfolding asked_of
-AsksSpace-from_Some texts given is = record { asked = asked_of given; command = IsCommand-from_Some texts given is; size = refl; calls = refl }
+AsksSpace-from_Some verb texts given is = record { asked = asked_of given; command = IsCommand-from_Some verb texts given is; size = refl; calls = refl }
 
-pub ShowsCalls-from_Some : (texts : List (List ℕ)) (given : Given) → Some given ≡ given_of texts → ShowsCalls texts given.calls_shown
+pub ShowsCalls-from_Some : (verb : Verb) (texts : List (List ℕ)) (given : Given) → Some given ≡ given_of verb texts → ShowsCalls verb texts given.calls_shown
 unfolding asked_of
-ShowsCalls-from_Some texts given is = record { asked = asked_of given; command = IsCommand-from_Some texts given is; shown = refl }
+ShowsCalls-from_Some verb texts given is = record { asked = asked_of given; command = IsCommand-from_Some verb texts given is; shown = refl }
 
-pub InLanguage-from_Some : (texts : List (List ℕ)) (given : Given) → Some given ≡ given_of texts → InLanguage texts
-InLanguage-from_Some texts given is = record { asked = asked_of given; command = IsCommand-from_Some texts given is }
+pub InLanguage-from_Some : (verb : Verb) (texts : List (List ℕ)) (given : Given) → Some given ≡ given_of verb texts → InLanguage verb texts
+InLanguage-from_Some verb texts given is = record { asked = asked_of given; command = IsCommand-from_Some verb texts given is }
 
 -- the pages of a command are those that a space may have
 pages-bounds : (texts : List (List ℕ)) (pages : ℕ) → MeansAtMostOne IsPages 4096 texts pages → (16 ≤ pages) × (pages ≤ 16384)
@@ -57,19 +59,26 @@ pages-bounds [] pages means = (omega arith, omega arith)
 pages-bounds (text ∷ []) pages means = (means.least, means.most)
 pages-bounds (text ∷ other ∷ texts) pages means = absurd means
 
-pub AsksSpace-bounds : (texts : List (List ℕ)) (pages : ℕ) (refuse : List ℕ) → AsksSpace texts pages refuse → (16 ≤ pages) × (pages ≤ 16384)
-AsksSpace-bounds texts pages refuse asks =
+pub AsksSpace-bounds : (verb : Verb) (texts : List (List ℕ)) (pages : ℕ) (refuse : List ℕ) → AsksSpace verb texts pages refuse → (16 ≤ pages) × (pages ≤ 16384)
+AsksSpace-bounds verb texts pages refuse asks =
     let bounds = pages-bounds (filter_map pages_text asks.command.options) asks.asked.pages asks.command.pages in
     let size : pages ≡ asks.asked.pages = asks.size in
     rw size bounds
 
--- the words of a command give something
-given_of-command : (texts : List (List ℕ)) (asked : Asked) (command : IsCommand texts asked)
-    → given_of texts ≡ Some (record { calls_shown = asked.calls_shown; pages = chosen IsPages (filter_map pages_text command.options) asked.pages; refuse = chosen IsList (filter_map refuse_text command.options) asked.refuse })
+-- the words behind a command's name
+given_of-named : (verb : Verb) (texts : List (List ℕ)) → given_of verb (name_of verb ∷ texts) ≡ options_added (record { calls_shown = false; pages = None; refuse = None }) texts
 unfolding given_of
-given_of-command texts asked command =
+given_of-named Serial texts = refl
+given_of-named Replay texts = refl
+
+-- the words of a command give something
+given_of-command : (verb : Verb) (texts : List (List ℕ)) (asked : Asked) (command : IsCommand verb texts asked)
+    → given_of verb texts ≡ Some (record { calls_shown = asked.calls_shown; pages = chosen IsPages (filter_map pages_text command.options) asked.pages; refuse = chosen IsList (filter_map refuse_text command.options) asked.refuse })
+unfolding given_of
+given_of-command verb texts asked command =
     let calls : count_by is_calls command.options ≡ one_if asked.calls_shown = command.calls_shown in
-    ap given_of command.words
+    ap (given_of verb) command.words
+    ∙ given_of-named verb (flat_map words_of command.options)
     ∙ options_added-are command.options (record { calls_shown = false; pages = None; refuse = None })
     (record { calls_shown = asked.calls_shown; pages = chosen IsPages (filter_map pages_text command.options) asked.pages; refuse = chosen IsList (filter_map refuse_text command.options) asked.refuse })
     (record {
@@ -78,9 +87,9 @@ given_of-command texts asked command =
       refuse = adds-from_means IsList [] (filter_map refuse_text command.options) asked.refuse command.refuse;
     })
 
-pub no_language : (texts : List (List ℕ)) → None ≡ given_of texts → ¬ InLanguage texts
-no_language texts none language =
-    let some = given_of-command texts language.asked language.command in
+pub no_language : (verb : Verb) (texts : List (List ℕ)) → None ≡ given_of verb texts → ¬ InLanguage verb texts
+no_language verb texts none language =
+    let some = given_of-command verb texts language.asked language.command in
     absurd (cc)
 
 -- the words behind the first, and behind the second

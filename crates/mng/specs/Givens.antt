@@ -2,8 +2,9 @@
 use Rattle.std.specs.Prelude.{ℕ, ◌∷◌, [], ◌++◌, ◌==◌, ◌&&◌, true, false, List, length, codes, if◌then◌else◌, nat_le, nat_lt, Option, Some, None, option_and_then, is_some}
 use Rattle.std.specs.List.{slice_split}
 use Rattle.std.specs.Str.{bytes_eq}
-use Rattle.mng.specs.Words.{number_of}
+use Rattle.mng.specs.Words.{number_of, name_of}
 use Rattle.mng.specs.declared.asked.Given.{Given}
+use Rattle.mng.specs.declared.verb.Verb.{Verb}
 
 -- the pages that a text asks for
 unfoldable pub pages_of : List ℕ → Option ℕ
@@ -56,7 +57,7 @@ options_added given (option ∷ text ∷ texts) =
     else option_and_then (λ more. options_added more texts) (pair_added given option text)
 
 -- what texts give that begin with the command's name
-unfoldable pub given_of : List (List ℕ) → Option Given
-given_of [] = None
-given_of (name ∷ texts) =
-    if bytes_eq name (codes "serial") then options_added (record { calls_shown = false; pages = None; refuse = None }) texts else None
+unfoldable pub given_of : Verb → List (List ℕ) → Option Given
+given_of verb [] = None
+given_of verb (name ∷ texts) =
+    if bytes_eq name (name_of verb) then options_added (record { calls_shown = false; pages = None; refuse = None }) texts else None

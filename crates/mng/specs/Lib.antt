@@ -3,5 +3,7 @@ pub mod Givens
 pub mod Statuses
 pub mod Inputs
 pub mod Closed
+pub mod Opened
+pub mod Causes
 pub mod Tool
 pub mod Caps

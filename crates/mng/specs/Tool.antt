@@ -13,6 +13,7 @@ use Rattle.mng.specs.Words.{ShowsCalls}
 use Rattle.mng.specs.declared.closed.Closed.{Closed}
 use Rattle.mng.specs.declared.status.Status.{Status}
 use Rattle.mng.specs.declared.status.Status.TheVariants.{Done, Usage, ReadFault, BadLine, Limit, NoLog, WriteFault, Host}
+use Rattle.mng.specs.declared.verb.Verb.{Verb}
 
 -- a run of a plan in a mapper's space: the heap that was closed has the pages of the space, and replies and books with which
 -- its account holds, the books numbered by the logs from 1 on; its words are a lawful image that goes with the same history,
@@ -27,23 +28,23 @@ pub record Runs (plan : Plan) (calls_shown : Bool) (span : Span) (before now : C
   pub reported : text ≡ report plan plain calls_shown heap.replies (sum_by (λ run. run.1) live)
 
 -- a run that the words and the input ask for: the whole rest of the input was read and has this plan
-pub record Serves (texts : List (List ℕ)) (left left' : Option (List ℕ)) (span : Span) (before now : Counts) (live : List mapper.Run) (closed : List Closed) (text : List ℕ) : Type 0 where
+pub record Serves (verb : Verb) (texts : List (List ℕ)) (left left' : Option (List ℕ)) (span : Span) (before now : Counts) (live : List mapper.Run) (closed : List Closed) (text : List ℕ) : Type 0 where
   pub calls_shown : Bool
-  pub words : ShowsCalls texts calls_shown
+  pub words : ShowsCalls verb texts calls_shown
   pub plan : Plan
   pub input : PlansInput left left' plan
   pub run : Runs plan calls_shown span before now live closed text
 
 -- the whole report of such a run was written
-pub record WritesReport (texts : List (List ℕ)) (left left' : Option (List ℕ)) (span : Span) (before now : Counts) (live : List mapper.Run) (closed : List Closed) (written written' : Option (List ℕ)) : Type 0 where
+pub record WritesReport (verb : Verb) (texts : List (List ℕ)) (left left' : Option (List ℕ)) (span : Span) (before now : Counts) (live : List mapper.Run) (closed : List Closed) (written written' : Option (List ℕ)) : Type 0 where
   pub text : List ℕ
-  pub serves : Serves texts left left' span before now live closed text
+  pub serves : Serves verb texts left left' span before now live closed text
   pub whole : written' ≡ added written text
 
 -- a beginning of the report of such a run was written
-pub record WritesBeginning (texts : List (List ℕ)) (left left' : Option (List ℕ)) (span : Span) (before now : Counts) (live : List mapper.Run) (closed : List Closed) (written written' : Option (List ℕ)) : Type 0 where
+pub record WritesBeginning (verb : Verb) (texts : List (List ℕ)) (left left' : Option (List ℕ)) (span : Span) (before now : Counts) (live : List mapper.Run) (closed : List Closed) (written written' : Option (List ℕ)) : Type 0 where
   pub text : List ℕ
-  pub serves : Serves texts left left' span before now live closed text
+  pub serves : Serves verb texts left left' span before now live closed text
   pub part : WritesPart written written' text
 
 -- how a run ends: its report was written, or a beginning of it

@@ -4,6 +4,8 @@ use Rattle.std.specs.Char.{is_digit}
 use Rattle.std.specs.List.{filter_map, flat_map, list_all, slice_split, starts_with}
 use Rattle.std.specs.Str.Parse.{digits_value}
 use Rattle.std.specs.declared.alloc.Global.{Global}
+use Rattle.mng.specs.declared.verb.Verb.{Verb}
+use Rattle.mng.specs.declared.verb.Verb.TheVariants.{Serial, Replay}
 
 -- the bytes of each word
 abbrev pub texts_of : List (String Global) → List (List ℕ)
@@ -70,34 +72,39 @@ MeansAtMostOne Means common [] value = value ≡ common
 MeansAtMostOne Means common (text ∷ []) value = Means text value
 MeansAtMostOne Means common (text ∷ other ∷ texts) value = ⊥
 
+-- the name of a command
+abbrev pub name_of : Verb → List ℕ
+name_of Serial = codes "serial"
+name_of Replay = codes "replay"
+
 -- what a command asks: whether a line is shown for each call, the pages of the space, and the numbers of the map calls to refuse
 pub record Asked : Type 0 where
   pub calls_shown : Bool
   pub pages : ℕ
   pub refuse : List ℕ
 
--- the texts are `serial` and behind it options in some order, each at most once, and this is what they ask
-pub record IsCommand (texts : List (List ℕ)) (asked : Asked) : Type 0 where
+-- the texts are a command's name and behind it options in some order, each at most once, and this is what they ask
+pub record IsCommand (verb : Verb) (texts : List (List ℕ)) (asked : Asked) : Type 0 where
   pub options : List Choice
-  pub words : texts ≡ codes "serial" ∷ flat_map words_of options
+  pub words : texts ≡ name_of verb ∷ flat_map words_of options
   pub calls_shown : count_by is_calls options ≡ (if asked.calls_shown then 1 else 0)
   pub pages : MeansAtMostOne IsPages 4096 (filter_map pages_text options) asked.pages
   pub refuse : MeansAtMostOne IsList [] (filter_map refuse_text options) asked.refuse
 
--- the texts are those of a command
-pub record InLanguage (texts : List (List ℕ)) : Type 0 where
+-- the texts are those of this command
+pub record InLanguage (verb : Verb) (texts : List (List ℕ)) : Type 0 where
   pub asked : Asked
-  pub command : IsCommand texts asked
+  pub command : IsCommand verb texts asked
 
--- the texts are those of a command that shows a line for each call, or not
-pub record ShowsCalls (texts : List (List ℕ)) (calls_shown : Bool) : Type 0 where
+-- the texts are those of this command, which shows a line for each call, or not
+pub record ShowsCalls (verb : Verb) (texts : List (List ℕ)) (calls_shown : Bool) : Type 0 where
   pub asked : Asked
-  pub command : IsCommand texts asked
+  pub command : IsCommand verb texts asked
   pub shown : calls_shown ≡ asked.calls_shown
 
--- the texts are those of a command that asks for so many pages, and for these map calls to be refused
-pub record AsksSpace (texts : List (List ℕ)) (pages : ℕ) (refuse : List ℕ) : Type 0 where
+-- the texts are those of this command, which asks for so many pages, and for these map calls to be refused
+pub record AsksSpace (verb : Verb) (texts : List (List ℕ)) (pages : ℕ) (refuse : List ℕ) : Type 0 where
   pub asked : Asked
-  pub command : IsCommand texts asked
+  pub command : IsCommand verb texts asked
   pub size : pages ≡ asked.pages
   pub calls : refuse ≡ asked.refuse

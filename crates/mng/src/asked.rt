@@ -8,7 +8,7 @@ pub struct Setup {
     pub refuse: Items<u64>,
 }
 
-/// What the words of `serial` ask.
+/// What the words of a command ask of its report.
 #[derive(Clone, Copy, Debug, PartialEq, Eq)]
 pub struct Command {
     /// Whether the report has a line for each call.

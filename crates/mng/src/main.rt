@@ -5,6 +5,7 @@ mod asked;
 mod cap;
 mod choices;
 mod closed;
+mod ending;
 mod fresh;
 mod numbers;
 mod prepare;
@@ -13,6 +14,7 @@ mod status;
 #[cfg(test)]
 mod tests;
 mod tool;
+mod verb;
 mod words;
 #[cfg(test)]
 mod words_tests;

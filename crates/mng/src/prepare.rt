@@ -5,11 +5,13 @@ ghost use Rattle.ng_plan.specs.Sound.{IsSound};
 ghost use Rattle.ng_report.specs.Room.{room_of};
 ghost use Rattle.ng_terms.specs.Calls.{op_count};
 ghost use Rattle.ng_terms.specs.Causes.{Rose};
+ghost use Rattle.mng.specs.Causes.{IsDue};
 ghost use Rattle.mng.specs.Inputs.{HasNoLog, PlansInput};
 ghost use Rattle.mng.specs.Statuses.{told_by, IsEarly, IsInputFault};
-ghost use Rattle.mng.specs.Words.{texts_of, InLanguage, ShowsCalls};
+ghost use Rattle.mng.specs.Words.{texts_of, ShowsCalls};
 
 use crate::status::Status;
+use crate::verb::Verb;
 use crate::words::command;
 use ng_mtrace::{LogFault, Source, read_logs};
 use ng_plan::plan;
@@ -31,31 +33,22 @@ pub struct Prepared {
     ghost text_room: { room_of plan calls_shown ≤ vec_capacity text },
 }
 
-/// Reads the words and the input, plans, and takes the memory for the run.
+/// Reads the words of a command and the input, plans, and takes the memory for the run.
 pub fn prepare<I: Source>(
     alloc: Global,
     words: &[String],
     input: &mut I,
+    verb: Verb,
 ) -> Result<Prepared, Status>
-    ensures words { IfOk result (λ run. ShowsCalls (texts_of words.now) run.calls_shown) }
+    ensures words { IfOk result (λ run. ShowsCalls verb (texts_of words.now) run.calls_shown) }
     ensures input { IfOk result (λ run. PlansInput (I.left input.old) (I.left input.new) run.plan) }
     ensures sound { IfOk result (λ run. IsSound run.plan) }
-
-    ensures usage { (result ≡ Err Status.Usage) ↔ ¬ InLanguage (texts_of words.now) }
-    ensures unread { result ≡ Err Status.Usage → input.new ≡ input.old }
-    ensures read { result ≡ Err Status.ReadFault → Rose (I.faults input.old) (I.faults input.new) }
-    ensures undecided { result ≡ Err Status.ReadFault
-        → TakesFaultless (I.left input.old) (I.left input.new) }
-    ensures unfailed { I.exact → result ≢ Err Status.ReadFault
-        → I.faults input.new ≡ I.faults input.old }
-    ensures bad_line { (line : ℕ) → result ≡ Err (Status.BadLine line)
-        → MeetsFault (fault.BadLine line) (I.left input.old) (I.left input.new) }
-    ensures limit { (line : ℕ) → result ≡ Err (Status.Limit line)
-        → MeetsFault (fault.Limit line) (I.left input.old) (I.left input.new) }
-    ensures no_log { result ≡ Err Status.NoLog → HasNoLog (I.left input.old) (I.left input.new) }
+    ensures unfailed { IfOk result (λ run. I.exact → I.faults input.new ≡ I.faults input.old) }
+    ensures due { IfErr result
+        (λ status. IsDue verb (texts_of words.now) I.left I.faults I.exact input.old input.new status) }
     ensures early { IfErr result IsEarly }
 {
-    let Some(command) = command(words) else {
+    let Some(command) = command(words, verb) else {
         return Err(Status::Usage);
     };
     let plan = planned_input(alloc, input)?;

@@ -134,6 +134,14 @@ fn words_outside_the_language(rt: HostRuntime) -> Result<(), Fail> {
 }
 
 #[test]
+fn words_of_another_command(rt: HostRuntime) -> Result<(), Fail> {
+    let (status, sink) = replayed(rt.alloc(), &["replay"], INPUT, &[1], &[])?;
+    assert_eq!(rt; status, Status::Usage);
+    assert_eq!(rt; sink.bytes().len(), 0);
+    Ok(())
+}
+
+#[test]
 fn a_line_that_is_none(rt: HostRuntime) -> Result<(), Fail> {
     let (status, sink) = replayed(rt.alloc(), &["serial"], b"= Start\n+ 0x10\n", &[], &[])?;
     assert_eq!(rt; status, Status::BadLine(2));

@@ -1,8 +1,7 @@
-ghost use Rattle.std.specs.Prelude.{◌≡◌, ◌≢◌, ◌↔◌, ◌⊎◌, ◌*◌, ◌≤◌, ◌<◌, ◌^◌, ℕ, []};
-ghost use Rattle.ng_mtrace.specs.Reads.{MeetsFault, TakesFaultless};
-ghost use Rattle.ng_mtrace.specs.declared.log_fault.LogFault.TheVariants as fault;
+ghost use Rattle.std.specs.Prelude.{◌≡◌, ◌⊎◌, ◌≤◌, ◌<◌, ◌^◌, []};
 ghost use Rattle.ng_terms.specs.Causes.{Rose};
-ghost use Rattle.mng.specs.Inputs.{HasNoLog, IsInForm};
+ghost use Rattle.mng.specs.Causes.{IsDue};
+ghost use Rattle.mng.specs.Inputs.{IsInForm};
 ghost use Rattle.mng.specs.Statuses.{IsEarly};
 ghost use Rattle.mng.specs.Tool.{WritesBeginning, WritesReport};
 ghost use Rattle.ng_policy.specs.Policy.{Counts, Keeps};
@@ -14,6 +13,7 @@ use crate::fresh::Fresh;
 use crate::prepare::prepare;
 use crate::run::run;
 use crate::status::Status;
+use crate::verb::Verb;
 use ng_mapper::Mapper;
 use ng_mtrace::{Sink, Source};
 use ng_policy::{Ask, Policy, Spare};
@@ -42,35 +42,23 @@ pub fn tool<I: Source, O: Sink, M: Mapper, C: Fn(Ask) -> u32 + Drop, K: Fn(Spare
     requires keeps { Keeps K.pre policy.keep }
 
     // All was written: the report of replies that fit, with the books of one legal history.
-    ensures done { result.0 ≡ Status.Done → WritesReport (texts_of words.now)
+    ensures done { result.0 ≡ Status.Done → WritesReport Verb.Serial (texts_of words.now)
         (I.left input.old) (I.left input.new) (M.span mapper)
         (counts_of (M.refused mapper)) (counts_of (M.refused result.1)) (M.runs result.1) result.2.items
         (O.written out.old) (O.written out.new) }
 
     // A write failed, and a beginning of such a report was written.
     ensures write_fault { result.0 ≡ Status.WriteFault → Rose (O.faults out.old) (O.faults out.new) }
-    ensures beginning { result.0 ≡ Status.WriteFault → WritesBeginning (texts_of words.now)
+    ensures beginning { result.0 ≡ Status.WriteFault → WritesBeginning Verb.Serial (texts_of words.now)
         (I.left input.old) (I.left input.new) (M.span mapper)
         (counts_of (M.refused mapper)) (counts_of (M.refused result.1)) (M.runs result.1) result.2.items
         (O.written out.old) (O.written out.new) }
 
-    // The causes of the other statuses. The first event in the order of the input's bytes decides:
-    // no fault stands before a read that failed, and no other status comes behind one.
-    ensures usage { (result.0 ≡ Status.Usage) ↔ ¬ InLanguage (texts_of words.now) }
-    ensures unread { result.0 ≡ Status.Usage → input.new ≡ input.old }
-    ensures read_fault { result.0 ≡ Status.ReadFault → Rose (I.faults input.old) (I.faults input.new) }
-    ensures undecided { result.0 ≡ Status.ReadFault
-        → TakesFaultless (I.left input.old) (I.left input.new) }
-    ensures unfailed { I.exact → result.0 ≢ Status.ReadFault
-        → I.faults input.new ≡ I.faults input.old }
-    ensures bad_line { (line : ℕ) → result.0 ≡ Status.BadLine line
-        → MeetsFault (fault.BadLine line) (I.left input.old) (I.left input.new) }
-    ensures limit { (line : ℕ) → result.0 ≡ Status.Limit line
-        → MeetsFault (fault.Limit line) (I.left input.old) (I.left input.new) }
-    ensures no_log { result.0 ≡ Status.NoLog → HasNoLog (I.left input.old) (I.left input.new) }
+    // The other statuses but `Host`, with their causes.
+    ensures due { IsDue Verb.Serial (texts_of words.now) I.left I.faults I.exact input.old input.new result.0 }
 
     // Words and an input in their languages are served, where no read, no write and no memory fails.
-    ensures complete { InLanguage (texts_of words.now) → IsInForm (I.left input.old)
+    ensures complete { InLanguage Verb.Serial (texts_of words.now) → IsInForm (I.left input.old)
         → ¬ Rose (I.faults input.old) (I.faults input.new) → ¬ Rose (O.faults out.old) (O.faults out.new)
         → (result.0 ≡ Status.Done) ⊎ (result.0 ≡ Status.Host) }
 
@@ -82,7 +70,7 @@ pub fn tool<I: Source, O: Sink, M: Mapper, C: Fn(Ask) -> u32 + Drop, K: Fn(Spare
     ensures handed_back { IsEarly result.0 → result.1 ≡ mapper }
     ensures unopened { IsEarly result.0 → result.2.items ≡ [] }
 {
-    let prepared = match prepare(alloc, words, input) {
+    let prepared = match prepare(alloc, words, input, Verb::Serial) {
         Ok(prepared) => prepared,
         Err(status) => return (status, mapper, Vec::new(alloc)),
     };

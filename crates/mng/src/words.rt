@@ -1,25 +1,27 @@
-ghost use Rattle.std.specs.Prelude.{◌≡◌, ◌≢◌, ◌≤◌, ◌↔◌, IfOk, IfErr, IfSome, IfNone, Err, [], unwrap_or};
+ghost use Rattle.std.specs.Prelude.{◌≡◌, ◌≢◌, ◌≤◌, ◌↔◌, IfOk, IfErr, IfSome, IfNone, Err, Some, None, [], unwrap_or};
 ghost use Rattle.mng.specs.Words.{texts_of, value_of, number_of, AsksSpace, InLanguage, ShowsCalls};
 ghost use Rattle.mng.specs.Givens.{pages_of, list_of, number_added, calls_added, pages_added, refuse_added, pair_added, options_added, given_of};
 
 use crate::asked::{Command, Given, Setup};
 use crate::numbers::Numbers;
 use crate::status::Status;
+use crate::verb::Verb;
 use ng_terms::{Host, Items};
 use std::alloc::Global;
 
 /// The pages of a space where the words don't tell.
 const PAGES: u32 = 4096;
 
-/// What the words ask of the space, `Usage` where they aren't in the language, or `Host` for want of memory.
+/// What the words of a command ask of the space, `Usage` where they are those of none, or `Host` for want of memory.
 pub fn setup(alloc: Global, words: &[String]) -> Result<Setup, Status>
-    ensures asked { IfOk result (λ setup. AsksSpace (texts_of words.now) setup.pages setup.refuse) }
+    ensures asked { IfOk result (λ setup. (verb : Verb)
+        × AsksSpace verb (texts_of words.now) setup.pages setup.refuse) }
     ensures least { IfOk result (λ setup. 16 ≤ setup.pages) }
     ensures most { IfOk result (λ setup. setup.pages ≤ 16384) }
-    ensures usage { (result ≡ Err Status.Usage) ↔ ¬ InLanguage (texts_of words.now) }
+    ensures usage { (result ≡ Err Status.Usage) ↔ ((verb : Verb) → ¬ InLanguage verb (texts_of words.now)) }
     ensures host { IfErr result (λ status. status ≢ Status.Usage → status ≡ Status.Host) }
 {
-    let Some(given) = given(words) else {
+    let Some(given) = given_by_any(words) else {
         return Err(Status::Usage);
     };
     match refused(alloc, given.refuse) {
@@ -31,12 +33,12 @@ pub fn setup(alloc: Global, words: &[String]) -> Result<Setup, Status>
     }
 }
 
-/// The command that the words give. `None`: they aren't in the language.
-pub fn command(words: &[String]) -> Option<Command>
-    ensures some { IfSome result (λ command. ShowsCalls (texts_of words.now) command.calls_shown) }
-    ensures none { IfNone result (¬ InLanguage (texts_of words.now)) }
+/// What the words of this command ask. `None`: they aren't in its language.
+pub fn command(words: &[String], verb: Verb) -> Option<Command>
+    ensures some { IfSome result (λ command. ShowsCalls verb (texts_of words.now) command.calls_shown) }
+    ensures none { IfNone result (¬ InLanguage verb (texts_of words.now)) }
 {
-    let given = given(words)?;
+    let given = given(words, verb)?;
     Some(Command {
         calls_shown: given.calls_shown,
     })
@@ -52,13 +54,24 @@ fn refused(alloc: Global, numbers: Option<Numbers>) -> Result<Items<u64>, Host>
     }
 }
 
-/// What the words give.
+/// What the words give, whichever command they are of.
+fn given_by_any(words: &[String]) -> Option<Given>
+    ensures some { IfSome result (λ given. (verb : Verb) × (Some given ≡ given_of verb (texts_of words.now))) }
+    ensures none { IfNone result ((verb : Verb) → None ≡ given_of verb (texts_of words.now)) }
+{
+    match given(words, Verb::Serial) {
+        Some(given) => Some(given),
+        None => given(words, Verb::Replay),
+    }
+}
+
+/// What the words of this command give.
 #[tactic(auto, unfolding(crate::specs::Givens::given_of))]
-fn given(words: &[String]) -> Option<Given>
-    ensures { result ≡ given_of (texts_of words.now) }
+fn given(words: &[String], verb: Verb) -> Option<Given>
+    ensures { result ≡ given_of verb (texts_of words.now) }
 {
     match words {
-        [name, options @ ..] if name.as_str() == "serial" => with_options(
+        [name, options @ ..] if name.as_str() == verb.name() => with_options(
             Given {
                 calls_shown: false,
                 pages: None,

@@ -1,4 +1,5 @@
 use crate::status::Status;
+use crate::verb::Verb;
 use crate::words::{command, setup};
 use std::alloc::Global;
 use std::test::Fail;
@@ -30,7 +31,7 @@ fn options_in_any_order(rt: HostRuntime) -> Result<(), Fail> {
     assert_eq!(rt; setup.pages, 1200);
     assert_eq!(rt; setup.refuse.as_slice(), refuse);
     assert_eq!(rt;
-        command(texts.as_slice()).map(|command| command.calls_shown),
+        command(texts.as_slice(), Verb::Serial).map(|command| command.calls_shown),
         Some(true)
     );
     Ok(())
@@ -46,8 +47,35 @@ fn no_options(rt: HostRuntime) -> Result<(), Fail> {
     assert_eq!(rt; setup.pages, 4096);
     assert_eq!(rt; setup.refuse.as_slice().len(), 0);
     assert_eq!(rt;
-        command(texts.as_slice()).map(|command| command.calls_shown),
+        command(texts.as_slice(), Verb::Serial).map(|command| command.calls_shown),
         Some(false)
     );
+    Ok(())
+}
+
+#[test]
+fn words_of_replay(rt: HostRuntime) -> Result<(), Fail> {
+    let alloc = rt.alloc();
+    let texts = texts_of(alloc, &["replay", "--pages", "64", "--calls"])?;
+    let Ok(setup) = setup(alloc, texts.as_slice()) else {
+        return Err("the words are in the language")?;
+    };
+    assert_eq!(rt; setup.pages, 64);
+    assert_eq!(rt;
+        command(texts.as_slice(), Verb::Replay).map(|command| command.calls_shown),
+        Some(true)
+    );
+    assert_eq!(rt; command(texts.as_slice(), Verb::Serial), None);
+    Ok(())
+}
+
+#[test]
+fn words_of_no_command(rt: HostRuntime) -> Result<(), Fail> {
+    let alloc = rt.alloc();
+    let texts = texts_of(alloc, &["walk"])?;
+    let Err(status) = setup(alloc, texts.as_slice()) else {
+        return Err("no command has this name")?;
+    };
+    assert_eq!(rt; status, Status::Usage);
     Ok(())
 }

@@ -1,5 +1,6 @@
 use Rattle.std.proofs.Common.{ap, length, ◌∙◌}
 use Rattle.std.proofs.lemmas.List.{length-map}
+use Rattle.mng.proofs.EndLemmas.{ends_opened}
 use Rattle.mng.proofs.OpenLemmas.{all_opened, even_opened}
 use Rattle.mng.proofs.run.run.Goals as goal
 
@@ -8,3 +9,7 @@ close-image-requires-clause-all g c = all_opened _ c.args.fresh.blank.rooms _ (a
 
 pub close-image-requires-clause-parcels : goal.close-image-requires-clause-parcels
 close-image-requires-clause-parcels g c = even_opened c.args.fresh.blank.rooms _ c.in-Ok.ensures.hands
+
+pub returns-in-Ok-for_plan-clause-ends : goal.returns-in-Ok-for_plan-clause-ends
+returns-in-Ok-for_plan-clause-ends g c = λ late.
+    ends_opened _ _ g.N.Name.facts _ _ _ _ _ _ _ _ _ c.requires.mapper c.requires.most c.ended.ensures.ends
