@@ -6,4 +6,3 @@ pub mod Closed
 pub mod Opened
 pub mod Causes
 pub mod Tool
-pub mod Caps

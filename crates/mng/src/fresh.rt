@@ -7,10 +7,10 @@ ghost use Rattle.ng_replay.specs.Serving.{IsCapOf};
 ghost use Rattle.ng_terms.specs.Calls.{op_count};
 ghost use Rattle.ng_view.specs.Layouts.{InRange};
 
-use crate::cap::cap_of;
 use crate::closed::Closed;
 use ng_group::Tables;
 use ng_mapper::Mapper;
+use ng_replay::cap_of;
 use ng_space::{Blank, Start};
 use ng_terms::{Host, Items, Op, Plan};
 use std::alloc::{AllocError, Global};

@@ -3,7 +3,6 @@
 
 mod asked;
 mod beside;
-mod cap;
 mod choices;
 mod closed;
 mod ending;

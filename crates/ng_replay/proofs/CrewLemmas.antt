@@ -1,5 +1,5 @@
 -- A crew that was opened, and workers that may begin.
-use Rattle.std.proofs.Common.{◌≡◌, ℕ, suc, zero, ◌+◌, ◌*◌, ◌<◌, ◌≤◌, List, [], ◌∷◌, length, get_or, map, vec_capacity, arith, refl, ap, sym, subst, ◌∙◌}
+use Rattle.std.proofs.Common.{◌≡◌, ℕ, suc, zero, ◌+◌, ◌*◌, ◌-◌, ◌<◌, ◌≤◌, List, [], ◌∷◌, length, get_or, map, vec_capacity, arith, refl, ap, sym, subst, ◌∙◌}
 use Rattle.std.specs.Global.{Vec}
 use Rattle.std.specs.Prelude.{All}
 use Rattle.std.proofs.lemmas.List.{get_or-map, length-map}
@@ -24,6 +24,7 @@ use Rattle.ng_replay.specs.declared.crew.Places.{Places}
 use Rattle.ng_replay.specs.declared.worker.Worker.{Worker}
 use Rattle.ng_replay.proofs.BookLemmas.{cap-op}
 use Rattle.ng_replay.proofs.HandLemmas.{get_or-fresh}
+use Rattle.ng_replay.proofs.RowLemmas.{get_or-there}
 
 -- the workers in the places, and room for what they leave
 pub IsCrewFor-made : {N : Type 0} → (crew : Crew N) (places : Places N) (plan : Plan) → HavePlaces places plan
@@ -113,3 +114,11 @@ AreReady-opened {N} boxes plan cap crew sound cap_of crew_for hands opened = rec
           room_to_collect = fresh.room_to_collect;
           room = crew_for.each log w below;
         }
+
+-- each hand-off goes to one of the logs
+pub receivers_within : (plan : Plan) → IsSound plan → All (λ (log : ℕ). log < length plan.logs) plan.receivers
+receivers_within plan sound i d below =
+    let at : i + 1 - 1 ≡ i = omega arith in
+    let off : IsHandedOff plan (i + 1) = sound.handed (i + 1) (record { least = omega arith; most = omega arith }) in
+    let to : get_or plan.receivers i 0 ≡ off.taker.log = subst (λ (k : ℕ). get_or plan.receivers k 0 ≡ off.taker.log) at off.receiver in
+    subst (λ (log : ℕ). log < length plan.logs) (sym to ∙ get_or-there plan.receivers i 0 d below) off.taker_in.log

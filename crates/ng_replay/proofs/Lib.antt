@@ -17,3 +17,4 @@ pub mod WorkLemmas
 pub mod CrewLemmas
 pub mod MailLemmas
 pub mod EndLemmas
+pub mod CapLemmas

@@ -4,3 +4,4 @@ pub mod Room
 pub mod Serial
 pub mod Works
 pub mod Crews
+pub mod Caps

@@ -2,6 +2,7 @@
 #![tactic(auto)]
 
 mod beside;
+mod cap;
 mod crew;
 mod gate;
 mod make;
@@ -13,6 +14,7 @@ mod threading;
 mod turns;
 mod worker;
 
+pub use cap::cap_of;
 pub use crew::Crew;
 pub use gate::{Gate, Open};
 pub use ng_terms::{Made, Mode, Reply};
@@ -23,3 +25,5 @@ pub use turns::serial;
 
 #[cfg(test)]
 mod tests;
+#[cfg(test)]
+mod threading_tests;

@@ -6,8 +6,9 @@ ghost use Rattle.ng_plan.specs.Plans.{lines_of};
 ghost use Rattle.ng_plan.specs.Sound.{IsSound};
 ghost use Rattle.ng_policy.specs.Ask.{AskInRange, IsCount};
 ghost use Rattle.ng_replay.specs.Books.{rooms_for};
+ghost use Rattle.ng_replay.specs.Serving.{IsCapOf};
 
-use crate::{Room, serial};
+use crate::{Room, cap_of, serial};
 use ng_group::Tables;
 use ng_heap::Heap;
 use ng_mapper::FirstFit;
@@ -15,7 +16,7 @@ use ng_mtrace::{Line, Log, Logs};
 use ng_plan::plan;
 use ng_policy::{Ask, Kept, Policy, Rules, Spare, musl_count, musl_keep};
 use ng_space::{Blank, Book, Name, Start};
-use ng_terms::{Entry, Items, LARGE, Plan, Reply};
+use ng_terms::{Entry, Items, Plan, Reply};
 use std::alloc::Global;
 use std::marker::Brand;
 use std::process::Abort;
@@ -24,7 +25,7 @@ use std::test::Fail;
 const PAGES: u32 = 4096;
 
 // A log of these lines.
-fn log_of(alloc: Global, lines: &[Line]) -> Result<Log, Fail>
+pub(crate) fn log_of(alloc: Global, lines: &[Line]) -> Result<Log, Fail>
     ensures { IfOk result (λ log. log.lines ≡ lines.now) }
 {
     Ok(Log {
@@ -33,7 +34,7 @@ fn log_of(alloc: Global, lines: &[Line]) -> Result<Log, Fail>
 }
 
 // The plan of logs.
-fn plan_of(alloc: Global, logs: Vec<Log>) -> Result<Plan, Fail>
+pub(crate) fn plan_of(alloc: Global, logs: Vec<Log>) -> Result<Plan, Fail>
     requires few { length logs.items ≤ 16 }
     requires short { sum_by length (lines_of logs.items) ≤ 1000000 }
     ensures sound { IfOk result IsSound }
@@ -67,8 +68,9 @@ fn rooms(alloc: Global, plan: &Plan) -> Result<Vec<u64>, Fail>
 }
 
 // The memory of a heap with a hand for each log and of its core, and a mapper that refuses no call.
-fn parts(alloc: Global, plan: &Plan) -> Result<(Blank, Tables, FirstFit), Fail>
+pub(crate) fn parts(alloc: Global, plan: &Plan) -> Result<(Blank, Tables, FirstFit), Fail>
     ensures parts { IfOk result (λ made. AreParts made.0 made.1 made.2) }
+    ensures cap { IfOk result (λ made. IsCapOf made.0.start.cap plan.now) }
     ensures rooms { IfOk result (λ made. made.0.rooms ≡ rooms_for plan.now) }
 {
     let start = Start {
@@ -77,7 +79,7 @@ fn parts(alloc: Global, plan: &Plan) -> Result<(Blank, Tables, FirstFit), Fail>
         upper: 0x100_0000,
         secret: 0x0123_4567_89ab_cdef,
         refusals: 0,
-        cap: LARGE - 1,
+        cap: cap_of(plan),
     };
     let rooms = rooms(alloc, plan)?;
     let blank = Blank::new(alloc, start, rooms.as_slice())?;
@@ -87,14 +89,14 @@ fn parts(alloc: Global, plan: &Plan) -> Result<(Blank, Tables, FirstFit), Fail>
 }
 
 // The choices of musl.
-fn count(ask: Ask) -> u32
+pub(crate) fn count(ask: Ask) -> u32
     requires { AskInRange ask }
     ensures { IsCount ask.class result }
 {
     musl_count(ask)
 }
 
-fn keep(spare: Spare) -> bool {
+pub(crate) fn keep(spare: Spare) -> bool {
     musl_keep(spare)
 }
 
@@ -116,6 +118,7 @@ fn replayed<N: Name, P: Rules + Drop, R: Abort>(
     requires rooms { blank.rooms ≡ rooms_for plan.now }
     requires good { P.good rules }
     requires sound { IsSound plan.now }
+    requires cap { IsCapOf N.facts.start.cap plan.now }
 {
     match Heap::<N>::open(alloc, blank, tables, mapper, Kept::new(rules)) {
         Ok((heap, mut core, mut hands)) => {
@@ -228,6 +231,6 @@ fn a_moved_block_goes_to_another_log(rt: HostRuntime) -> Result<(), Fail> {
 }
 
 // The entry of a block of n bytes that was given there.
-fn give(n: u64, at: u64) -> Entry {
+pub(crate) fn give(n: u64, at: u64) -> Entry {
     Entry::Give { n, align: 16, at }
 }

@@ -11,7 +11,7 @@ use Rattle.ng_terms.specs.Heap.{large}
 use Rattle.ng_terms.specs.declared.plan.Op.{Op}
 use Rattle.ng_terms.specs.declared.plan.Op.TheVariants.{Make, Free, Move}
 use Rattle.ng_terms.specs.declared.plan.Plan.{Plan}
-use Rattle.mng.specs.Caps.{IsCapIn}
+use Rattle.ng_replay.specs.Caps.{IsCapIn}
 
 none_in : {X : Type 0} (x : X) → ¬ Contains [] x
 none_in x there = absurd (omega (arith, there.1))

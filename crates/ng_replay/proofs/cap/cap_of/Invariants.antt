@@ -1,8 +1,8 @@
 use Rattle.std.proofs.Common.{◌<◌, take}
 use Rattle.ng_replay.specs.Serving.{IsCapOf}
 use Rattle.ng_terms.specs.Heap.{large}
-use Rattle.mng.proofs.CapLemmas.{with_logs}
-use Rattle.mng.proofs.cap.cap_of.Given as goal
+use Rattle.ng_replay.proofs.CapLemmas.{with_logs}
+use Rattle.ng_replay.proofs.cap.cap_of.Given as goal
 
 abbrev pub invariant-loop-ops : goal.invariant-loop-ops
 invariant-loop-ops l = IsCapOf l.cap (with_logs l.plan (take l.ops-index l.plan.logs)) × (l.cap < large)

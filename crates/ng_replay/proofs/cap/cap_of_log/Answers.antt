@@ -2,9 +2,9 @@ use Rattle.std.proofs.Common.{ℕ, List, [], ◌∷◌, ◌++◌, length, slice_
 use Rattle.ng_terms.specs.declared.plan.Op.{Op}
 use Rattle.ng_terms.specs.declared.plan.Op.TheVariants.{Make}
 use Rattle.std.proofs.Common.{None}
-use Rattle.mng.specs.Caps.{IsCapIn}
-use Rattle.mng.proofs.CapLemmas.{cap_more, take_more}
-use Rattle.mng.proofs.cap.cap_of_log.Goals as goal
+use Rattle.ng_replay.specs.Caps.{IsCapIn}
+use Rattle.ng_replay.proofs.CapLemmas.{cap_more, take_more}
+use Rattle.ng_replay.proofs.cap.cap_of_log.Goals as goal
 
 pub loop-op-preserved : goal.loop-op-preserved
 loop-op-preserved c =

@@ -1,6 +1,6 @@
 // The largest request of a plan.
 ghost use Rattle.std.specs.Prelude.{◌≡◌, ◌<◌, ◌≤◌, max};
-ghost use Rattle.mng.specs.Caps.{IsCapIn};
+ghost use Rattle.ng_replay.specs.Caps.{IsCapIn};
 ghost use Rattle.ng_replay.specs.Serving.{IsCapOf};
 ghost use Rattle.ng_terms.specs.Calls.{size_of};
 ghost use Rattle.ng_terms.specs.Heap.{large};
