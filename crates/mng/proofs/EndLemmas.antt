@@ -26,10 +26,15 @@ use Rattle.ng_view.specs.Lists.{Among}
 use Rattle.ng_view.specs.declared.view.Book.{Book}
 use Rattle.ng_view.specs.declared.view.View.{View}
 use Rattle.mng.specs.Closed.{IsImageOf, entries_of, number_at, program_secret}
+use Rattle.mng.specs.Inputs.{PlansInput}
 use Rattle.mng.specs.Opened.{counts_at, span_at}
-use Rattle.mng.specs.Tool.{Ends, Runs}
+use Rattle.mng.specs.Statuses.{IsLate}
+use Rattle.mng.specs.Tool.{Ends, Runs, WritesBeginning, WritesReport}
+use Rattle.mng.specs.Words.{ShowsCalls}
 use Rattle.mng.specs.declared.closed.Closed.{Closed}
 use Rattle.mng.specs.declared.status.Status.{Status}
+use Rattle.mng.specs.declared.status.Status.TheVariants.{Done, WriteFault}
+use Rattle.mng.specs.declared.verb.Verb.{Verb}
 
 -- the entries of the hands' books are those of the hands
 entries-books : (hands : List Caller) → entries_of (books_of hands) ≡ books_of_hands hands
@@ -167,3 +172,21 @@ ends_opened plan calls_shown facts span before live refused now closed written w
     subst (λ (s : Span). Ends plan calls_shown s (counts_of refused) now live closed written written' status) (sym (span_opened facts span before refused fresh))
     (subst (λ (c : Counts). Ends plan calls_shown (span_at facts.start) c now live closed written written' status)
     (sym (counts_opened facts span before refused fresh most)) ends)
+
+-- ---- what a top call owes where the report was written, or a beginning of it
+module _ (verb : Verb) (texts : List (List ℕ)) (plan : Plan) (calls_shown : Bool) (left left' : Option (List ℕ)) (span : Span) (before now : Counts)
+    (live : List mapper.Run) (closed : List Closed) (written written' : Option (List ℕ)) (status : Status) where
+  abbrev EndsLate : Type 0
+  EndsLate = IsLate status → Ends plan calls_shown span before now live closed written written' status
+
+  pub writes_report : ShowsCalls verb texts calls_shown → PlansInput left left' plan → EndsLate → status ≡ Done
+      → WritesReport verb texts left left' span before now live closed written written'
+  writes_report words input ends is =
+      let told = subst (λ (s : Status). Ends plan calls_shown span before now live closed written written' s) is (ends (subst IsLate (sym is) tt)) in
+      record { text = told.0; serves = record { calls_shown = calls_shown; words = words; plan = plan; input = input; run = told.1 }; whole = told.2 }
+
+  pub writes_beginning : ShowsCalls verb texts calls_shown → PlansInput left left' plan → EndsLate → status ≡ WriteFault
+      → WritesBeginning verb texts left left' span before now live closed written written'
+  writes_beginning words input ends is =
+      let told = subst (λ (s : Status). Ends plan calls_shown span before now live closed written written' s) is (ends (subst IsLate (sym is) tt)) in
+      record { text = told.0; serves = record { calls_shown = calls_shown; words = words; plan = plan; input = input; run = told.1 }; part = told.2 }

@@ -2,12 +2,14 @@
 #![tactic(auto)]
 
 mod asked;
+mod beside;
 mod choices;
 mod closed;
 mod ending;
 mod fresh;
 mod numbers;
 mod prepare;
+mod replaying;
 mod run;
 mod status;
 #[cfg(test)]
@@ -22,12 +24,17 @@ use choices::{count, keep};
 use ng_mapper::FirstFit;
 use ng_mtrace::{Input, Output};
 use ng_policy::Policy;
+use ng_replay::Open;
+use replaying::replay;
 use status::{Status, status_line};
 use std::alloc::{Alloc, Global};
 use std::env::{self, Env};
 use std::io::{self, ErrorKind, Print};
 use std::process::ExitCode;
+use std::sync::Wait;
+use std::thread::Threads;
 use tool::tool;
+use verb::Verb;
 use words::setup;
 
 fn main(rt: HostRuntime) -> ExitCode {
@@ -40,14 +47,16 @@ fn main(rt: HostRuntime) -> ExitCode {
 }
 
 /// Does what the words ask, over the standard streams.
-fn replayed(rt: &HostRuntime) -> Status {
+fn replayed<R: Alloc<A = Global> + Env + io::Input + Print + Threads + Wait + Sync>(
+    rt: &R,
+) -> Status {
     let alloc = rt.alloc();
     let words = match words_of(rt) {
         Ok(words) => words,
         Err(status) => return status,
     };
-    // The words are read here for the mapper, which is made first, and once more by `tool`, which
-    // tells each status by what it is given.
+    // The words are read here for the mapper, which is made first, and once more by the top call,
+    // which tells each status by what it is given.
     let setup = match setup(alloc, words.as_slice()) {
         Ok(setup) => setup,
         Err(status) => return status,
@@ -58,14 +67,20 @@ fn replayed(rt: &HostRuntime) -> Status {
     let mut input = Input::new(rt.reader());
     let mut output = Output::new(io::writer(rt));
     let policy = Policy::new(count, keep);
-    let (status, mapper, closed) = tool(
-        alloc,
-        words.as_slice(),
-        &mut input,
-        &mut output,
-        mapper,
-        policy,
-    );
+    let words = words.as_slice();
+    let (status, mapper, closed) = match words.first() {
+        Some(word) if word.as_str() == Verb::Replay.name() => replay(
+            rt,
+            alloc,
+            words,
+            &mut input,
+            &mut output,
+            mapper,
+            policy,
+            &Open,
+        ),
+        _ => tool(alloc, words, &mut input, &mut output, mapper, policy),
+    };
     drop(mapper);
     drop(closed);
     status
