@@ -12,7 +12,7 @@ pub ops_within : (logs : List (List Op)) (log : ℕ) (other : List Op) → log <
 ops_within logs log other below = get_or-le-sum_by (λ (ops : List Op). length ops) logs log other below
 
 -- ---- hands that are numbered from a number on
-length-fresh : (first : ℕ) (rooms : List ℕ) → length (fresh_callers first rooms) ≡ length rooms
+pub length-fresh : (first : ℕ) (rooms : List ℕ) → length (fresh_callers first rooms) ≡ length rooms
 length-fresh first [] = refl
 length-fresh first (room ∷ rooms) = ap suc (length-fresh (first + 1) rooms)
 

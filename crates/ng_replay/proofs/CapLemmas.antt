@@ -45,9 +45,9 @@ cap_more ops op cap size is fits none = record { asked = asked; greatest = great
     asked : (max cap size ≡ 0) ⊎ ((o : Op) × Contains (ops ++ op ∷ []) o × (size_of o ≡ max cap size))
     asked = ⊎_elim
         (λ (more : cap < size). ⊎_elim
-            (λ (small : size_of op < large). inr (op, Contains-append_right ops (op ∷ []) op (itself_in op), omega (arith, fits small)))
-            (λ (wide : large ≤ size_of op). absurd (omega (arith, none wide)))
-            (cases_lt (size_of op) large))
+        (λ (small : size_of op < large). inr (op, Contains-append_right ops (op ∷ []) op (itself_in op), omega (arith, fits small)))
+        (λ (wide : large ≤ size_of op). absurd (omega (arith, none wide)))
+        (cases_lt (size_of op) large))
         (λ (least : size ≤ cap). other (omega arith))
         (cases_lt cap size)
 
@@ -124,9 +124,9 @@ capped_more plan logs ops cap size is one small = record { asked = asked; greate
     asked = ⊎_elim
         (λ (more : cap < size). inr (new more))
         (λ (least : size ≤ cap). ⊎_elim
-            (λ (none : cap ≡ 0). inl (omega arith))
-            (λ (a : IsAsked (with_logs plan logs) plain cap). inr (old a (omega arith)))
-            is.asked)
+        (λ (none : cap ≡ 0). inl (omega arith))
+        (λ (a : IsAsked (with_logs plan logs) plain cap). inr (old a (omega arith)))
+        is.asked)
         (cases_lt cap size)
 
     greatest : (bytes : ℕ) → IsAsked (with_logs plan all) plain bytes → bytes ≤ max cap size
@@ -135,11 +135,11 @@ capped_more plan logs ops cap size is one small = record { asked = asked; greate
         let was = is.greatest bytes (record { log = a.log; op = a.op; there = subst (λ (xs : List Op). Contains xs a.op) (get_or-append logs (ops ∷ []) [] a.log low) a.there; asks = a.asks; small = a.small }) in
         omega arith)
         (λ (high : length logs ≤ a.log). ⊎_elim
-            (λ (here : a.log ≡ length logs).
-            let in_ops = subst (λ (xs : List Op). Contains xs a.op) (ap (λ (k : ℕ). get_or all k []) here ∙ get_or-append_seam logs ops [] []) a.there in
-            let same = asks_size a.op bytes a.asks in
-            let most = one.greatest a.op in_ops (omega (arith, a.small)) in
-            omega arith)
-            (λ (ne : a.log ≡ length logs → ⊥). absurd (none_in a.op (subst (λ (xs : List Op). Contains xs a.op) (behind a.log (omega (arith, ne))) a.there)))
-            (cases_eq a.log (length logs)))
+        (λ (here : a.log ≡ length logs).
+        let in_ops = subst (λ (xs : List Op). Contains xs a.op) (ap (λ (k : ℕ). get_or all k []) here ∙ get_or-append_seam logs ops [] []) a.there in
+        let same = asks_size a.op bytes a.asks in
+        let most = one.greatest a.op in_ops (omega (arith, a.small)) in
+        omega arith)
+        (λ (ne : a.log ≡ length logs → ⊥). absurd (none_in a.op (subst (λ (xs : List Op). Contains xs a.op) (behind a.log (omega (arith, ne))) a.there)))
+        (cases_eq a.log (length logs)))
         (cases_lt a.log (length logs))

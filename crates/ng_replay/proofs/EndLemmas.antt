@@ -103,8 +103,8 @@ module _ {N : Type 0} {boxes : Boxes N} {plan : Plan} {hands : List Caller} {doo
           rw (ended.each log d within).sent
           (posted-once (get_or plan.logs log []) (get_or replies log []) number
           (λ i j first second a b.
-              ap (λ (p : Place). p.op)
-              (one-maker (record { log = log; op = i }) (record { log = log; op = j }) number (record { log = within; op = first }) (record { log = within; op = second }) a b)))
+          ap (λ (p : Place). p.op)
+          (one-maker (record { log = log; op = i }) (record { log = log; op = j }) number (record { log = within; op = first }) (record { log = within; op = second }) a b)))
 
       once : (log other : ℕ) (d : Door N) → log < length doors → other < length doors → 0 < count_by (is_of number) (get_or doors log d).sent.items
           → 0 < count_by (is_of number) (get_or doors other d).sent.items → log ≡ other
@@ -168,9 +168,9 @@ module _ {N : Type 0} {boxes : Boxes N} {plan : Plan} {hands : List Caller} {doo
             let done : AreDone boxes (get_or plan.logs log []) log (hand_at hands log) (get_or doors log d) (get_or replies log []) = ended.each log d below in
             AllZip-from_places (λ (op : Op) (reply : Reply). FitsOp plain (source_of plan.logs replies log (origin_of op)) op reply) (get_or plan.logs log []) (get_or replies log []) (Make 0 0 None) Absent done.count
             (λ i inside.
-                subst (λ (source : Option ℕ). FitsOp plain source (op_of_log (get_or plan.logs log []) i) (get_or (get_or replies log []) i Absent))
-                (source-same (record { log = log; op = i }) d (record { log = below; op = inside }) (origin_of (op_of_log (get_or plan.logs log []) i)) refl)
-                (done.fit i inside))
+            subst (λ (source : Option ℕ). FitsOp plain source (op_of_log (get_or plan.logs log []) i) (get_or (get_or replies log []) i Absent))
+            (source-same (record { log = log; op = i }) d (record { log = below; op = inside }) (origin_of (op_of_log (get_or plan.logs log []) i)) refl)
+            (done.fit i inside))
 
     pub IsEven-ended : IsEven hands
     IsEven-ended =

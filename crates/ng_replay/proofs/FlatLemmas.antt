@@ -81,10 +81,10 @@ count-some p (x ∷ xs) some =
     ⊎_elim
     (λ yes. record { one = x; there = (0, omega arith, refl); passes = yes })
     (λ no.
-        let none : cond (p x) 1 0 ≡ 0 = ap (λ (b : Bool). cond {A = ℕ} b 1 0) no in
-        let rest : Passes p xs = count-some p xs (omega (arith, sum_by-cons (λ (y : _). cond {A = ℕ} (p y) 1 0) x xs, none)) in
-        let (i, within, at) = rest.there in
-        record { one = rest.one; there = (suc i, omega arith, at); passes = rest.passes })
+    let none : cond (p x) 1 0 ≡ 0 = ap (λ (b : Bool). cond {A = ℕ} b 1 0) no in
+    let rest : Passes p xs = count-some p xs (omega (arith, sum_by-cons (λ (y : _). cond {A = ℕ} (p y) 1 0) x xs, none)) in
+    let (i, within, at) = rest.there in
+    record { one = rest.one; there = (suc i, omega arith, at); passes = rest.passes })
     (cases_Bool (p x))
 
 count-joined : {X Y : Type 0} → (p : Y → Bool) (f : X → List Y) (x : X) (xs : List X)
@@ -106,19 +106,19 @@ count-once p f [] each once = omega arith
 count-once p f (x ∷ xs) each once =
     ⊎_elim
     (λ some.
-        let none : count_by p (flat_map f xs) ≡ 0 =
-        count-none p f xs
-        (λ i d below.
-            ⊎_elim
-            (λ more. absurd (let same : 0 ≡ suc i = once 0 (suc i) d (omega arith) (omega arith) some more in omega arith))
-            (λ zeros. omega (arith, zeros))
-            (cases_lt 0 (count_by p (f (get_or xs i d))))) in
-        omega (arith, count-joined p f x xs, none, each 0 x (omega arith)))
+    let none : count_by p (flat_map f xs) ≡ 0 =
+    count-none p f xs
+    (λ i d below.
+    ⊎_elim
+    (λ more. absurd (let same : 0 ≡ suc i = once 0 (suc i) d (omega arith) (omega arith) some more in omega arith))
+    (λ zeros. omega (arith, zeros))
+    (cases_lt 0 (count_by p (f (get_or xs i d))))) in
+    omega (arith, count-joined p f x xs, none, each 0 x (omega arith)))
     (λ nothing.
-        let rest : count_by p (flat_map f xs) ≤ 1 =
-        count-once p f xs (λ i d below. each (suc i) d (omega arith))
-        (λ i j d first second a b. let same : suc i ≡ suc j = once (suc i) (suc j) d (omega arith) (omega arith) a b in omega arith) in
-        omega (arith, count-joined p f x xs, rest, nothing))
+    let rest : count_by p (flat_map f xs) ≤ 1 =
+    count-once p f xs (λ i d below. each (suc i) d (omega arith))
+    (λ i j d first second a b. let same : suc i ≡ suc j = once (suc i) (suc j) d (omega arith) (omega arith) a b in omega arith) in
+    omega (arith, count-joined p f x xs, rest, nothing))
     (cases_lt 0 (count_by p (f x)))
 
 -- sums of two lists that agree place by place

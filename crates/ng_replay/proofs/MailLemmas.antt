@@ -73,9 +73,12 @@ posted-place ops row number some =
     let (i, below, there) = flat_map-place (λ (d : Op × Reply). posted_for (handed_as d.0) (standing d.1)) (zip ops row) (Make 0 0 None, Absent) one.one one.there in
     let inside : i < length ops = omega (arith, length-zip ops row) in
     let within : i < length row = omega (arith, length-zip ops row) in
-    let at : get_or (zip ops row) i (Make 0 0 None, Absent) ≡ (op_of_log ops i, get_or row i Absent) = get_or-zip ops row i (Make 0 0 None, Absent) inside within in
-    (i, inside, is_given (handed_as (op_of_log ops i)) (standing (get_or row i Absent)) one.one
-    (subst (λ (d : Op × Reply). Contains (posted_for (handed_as d.0) (standing d.1)) one.one) at there) (eqb-true one.one.0 number one.passes))
+    let at : get_or (zip ops row) i (Make 0 0 None, Absent) ≡ (op_of_log ops i, get_or row i Absent) = get_or-zip ops row i (Make 0 0 None, Absent) inside within in (
+      i,
+      inside,
+      is_given (handed_as (op_of_log ops i)) (standing (get_or row i Absent)) one.one
+          (subst (λ (d : Op × Reply). Contains (posted_for (handed_as d.0) (standing d.1)) one.one) at there) (eqb-true one.one.0 number one.passes),
+    )
   where
     is_given : (given block : Option ℕ) (pair : Pair) → Contains (posted_for given block) pair → pair.0 ≡ number → given ≡ Some number
     is_given None block pair (k, below, is) same = absurd (omega arith)

@@ -46,9 +46,9 @@ unclaimed ops got number same none = find-none (is_of number) got fails
     fails pair there =
         ne_eqb pair.0 number
         (λ at.
-            let named : Contains (flat_map claimed_by ops) pair.0 = subst (λ (all : List ℕ). Contains all pair.0) same (Contains-map (λ (p : Pair). p.0) got pair there) in
-            let (k, below, is) = flat_map-place claimed_by ops (Make 0 0 None) pair.0 named in
-            none k below (claims-of (origin_of (op_of_log ops k)) pair.0 is ∙ ap Claim at))
+        let named : Contains (flat_map claimed_by ops) pair.0 = subst (λ (all : List ℕ). Contains all pair.0) same (Contains-map (λ (p : Pair). p.0) got pair there) in
+        let (k, below, is) = flat_map-place claimed_by ops (Make 0 0 None) pair.0 named in
+        none k below (claims-of (origin_of (op_of_log ops k)) pair.0 is ∙ ap Claim at))
 
 -- what was collected under another number stays
 collected-other : (got : List Pair) (origin : Origin) (taken : Option ℕ) (number : ℕ) → origin ≢ Claim number

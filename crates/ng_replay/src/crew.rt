@@ -74,11 +74,7 @@ fn places_for<N: Name>(alloc: Global, plan: &Plan) -> Result<Places<N>, AllocErr
 }
 
 /// The crew in this room, of these hands and doors.
-fn crew_of<N: Name>(
-    places: Places<N>,
-    mut hands: Vec<Hand<N>>,
-    mut doors: Vec<Door<N>>,
-) -> Crew<N>
+fn crew_of<N: Name>(places: Places<N>, mut hands: Vec<Hand<N>>, mut doors: Vec<Door<N>>) -> Crew<N>
     requires workers { places.workers.items ≡ [] }
     requires room { length hands.items ≤ vec_capacity places.workers }
     requires doors { length doors.items ≡ length hands.items }

@@ -52,8 +52,7 @@ fn replayed<
     let Ok((boxes, doors)) = ng_post::open(alloc, plan) else {
         panic!(rt; "no memory for the boxes")
     };
-    let Ok((heap, core, hands)) =
-        Heap::<N>::open(alloc, blank, tables, mapper, Kept::new(rules))
+    let Ok((heap, core, hands)) = Heap::<N>::open(alloc, blank, tables, mapper, Kept::new(rules))
     else {
         panic!(rt; "no memory for the heap")
     };
@@ -92,12 +91,16 @@ fn a_moved_block_goes_to_another_thread(rt: HostRuntime) -> Result<(), Fail> {
     let plan = plan_of(alloc, logs)?;
     let (blank, tables, mapper) = parts(alloc, &plan)?;
     let rules = Policy::new(count, keep);
-    let (replies, books) =
-        replayed::<Brand, _, _, _>(&rt, alloc, &plan, blank, tables, mapper, rules, &Open);
+    let (replies, books) = replayed::<Brand, _, _, _>(
+        &rt, alloc, &plan, blank, tables, mapper, rules, &Open,
+    );
     assert_eq!(rt; replies.len(), 2);
     assert_eq!(rt; given_and_freed(replies[0].as_slice()), (1, 0));
     assert_eq!(rt; given_and_freed(replies[1].as_slice()), (1, 1));
-    assert_eq!(rt; freed_at(replies[1].as_slice()), moved_to(replies[0].as_slice()));
+    assert_eq!(rt;
+        freed_at(replies[1].as_slice()),
+        moved_to(replies[0].as_slice())
+    );
     assert_eq!(rt; books.len(), 2);
     assert_eq!(rt; books[0].entries().len(), 3);
     assert_eq!(rt; books[1].entries().len(), 2);
@@ -194,8 +197,9 @@ fn two_logs_go_beside_each_other(rt: HostRuntime) -> Result<(), Fail> {
         answered: AtomicU32::new(0),
         late: AtomicU32::new(0),
     };
-    let (replies, _books) =
-        replayed::<Brand, _, _, _>(&rt, alloc, &plan, blank, tables, mapper, rules, &gate);
+    let (replies, _books) = replayed::<Brand, _, _, _>(
+        &rt, alloc, &plan, blank, tables, mapper, rules, &gate,
+    );
     assert_eq!(rt; gate.late.load(Ordering::SeqCst), 0);
     assert_eq!(rt; replies.len(), 2);
     assert_eq!(rt; given_and_freed(replies[0].as_slice()), (2, 0));

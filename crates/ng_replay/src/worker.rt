@@ -10,8 +10,8 @@ ghost use Rattle.ng_terms.specs.Heap.{large};
 ghost use Rattle.ng_terms.specs.declared.plan.Origin.TheVariants.{Own};
 ghost use Rattle.std.specs.Prelude.{Some};
 
-use crate::gate::Gate;
 use crate::beside::do_op;
+use crate::gate::Gate;
 use crate::passing::{hand_off, take_source};
 use ng_heap::SharedHeap;
 use ng_mapper::Mapper;
