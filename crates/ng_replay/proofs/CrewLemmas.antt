@@ -23,7 +23,7 @@ use Rattle.ng_replay.specs.declared.crew.Crew.{Crew}
 use Rattle.ng_replay.specs.declared.crew.Places.{Places}
 use Rattle.ng_replay.specs.declared.worker.Worker.{Worker}
 use Rattle.ng_replay.proofs.BookLemmas.{cap-op}
-use Rattle.ng_replay.proofs.HandLemmas.{get_or-fresh}
+use Rattle.ng_replay.proofs.HandLemmas.{get_or-fresh, length-fresh}
 use Rattle.ng_replay.proofs.RowLemmas.{get_or-there}
 
 -- the workers in the places, and room for what they leave
@@ -122,3 +122,7 @@ receivers_within plan sound i d below =
     let off : IsHandedOff plan (i + 1) = sound.handed (i + 1) (record { least = omega arith; most = omega arith }) in
     let to : get_or plan.receivers i 0 ≡ off.taker.log = subst (λ (k : ℕ). get_or plan.receivers k 0 ≡ off.taker.log) at off.receiver in
     subst (λ (log : ℕ). log < length plan.logs) (sym to ∙ get_or-there plan.receivers i 0 d below) off.taker_in.log
+
+-- one hand for each log
+pub length-callers : (plan : Plan) (hands : List Caller) → hands ≡ fresh_callers 1 (rooms_for plan) → length hands ≡ length plan.logs
+length-callers plan hands is = ap length is ∙ length-fresh 1 (rooms_for plan) ∙ length-map plan.logs (λ (ops : List Op). 2 * length ops)

@@ -51,7 +51,7 @@ AreAll-books count plan replies hands all books = record {
 }
 
 -- hands that have done nothing yet
-length-fresh : (number : ℕ) (rooms : List ℕ) → length (fresh_callers number rooms) ≡ length rooms
+pub length-fresh : (number : ℕ) (rooms : List ℕ) → length (fresh_callers number rooms) ≡ length rooms
 length-fresh number [] = refl
 length-fresh number (room ∷ rooms) = ap suc (length-fresh (number + 1) rooms)
 

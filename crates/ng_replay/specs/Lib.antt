@@ -5,3 +5,4 @@ pub mod Serial
 pub mod Works
 pub mod Crews
 pub mod Caps
+pub mod Tests

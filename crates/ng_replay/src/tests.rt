@@ -1,12 +1,11 @@
 // Plans of one log and of two, done over musl's rules and a mapper that gives the lowest runs. The addresses are those that
 // `tests/cases` has for the same lines.
 ghost use Rattle.std.specs.Prelude.{◌≡◌, ◌≤◌, IfOk, length, sum_by};
-ghost use Rattle.ng_group.specs.Tests.{AreParts};
 ghost use Rattle.ng_plan.specs.Plans.{lines_of};
 ghost use Rattle.ng_plan.specs.Sound.{IsSound};
 ghost use Rattle.ng_policy.specs.Ask.{AskInRange, IsCount};
 ghost use Rattle.ng_replay.specs.Books.{rooms_for};
-ghost use Rattle.ng_replay.specs.Serving.{IsCapOf};
+ghost use Rattle.ng_replay.specs.Tests.{AreParts};
 
 use crate::{Room, cap_of, serial};
 use ng_group::Tables;
@@ -38,14 +37,18 @@ pub(crate) fn plan_of(alloc: Global, logs: Vec<Log>) -> Result<Plan, Fail>
     requires few { length logs.items ≤ 16 }
     requires short { sum_by length (lines_of logs.items) ≤ 1000000 }
     ensures sound { IfOk result IsSound }
+    ensures few { IfOk result (λ plan. length plan.logs ≤ 16) }
 {
     let logs = Logs {
         logs: Items::from_vec(logs),
     };
-    match plan(alloc, &logs) {
-        Ok(plan) => Ok(plan),
-        Err(_) => Err("no memory")?,
+    let Ok(plan) = plan(alloc, &logs) else {
+        return Err("no memory")?;
+    };
+    if plan.logs.len() > 16 {
+        return Err("more logs than planned")?;
     }
+    Ok(plan)
 }
 
 // How many entries the book of each log may need.
@@ -69,9 +72,7 @@ fn rooms(alloc: Global, plan: &Plan) -> Result<Vec<u64>, Fail>
 
 // The memory of a heap with a hand for each log and of its core, and a mapper that refuses no call.
 pub(crate) fn parts(alloc: Global, plan: &Plan) -> Result<(Blank, Tables, FirstFit), Fail>
-    ensures parts { IfOk result (λ made. AreParts made.0 made.1 made.2) }
-    ensures cap { IfOk result (λ made. IsCapOf made.0.start.cap plan.now) }
-    ensures rooms { IfOk result (λ made. made.0.rooms ≡ rooms_for plan.now) }
+    ensures { IfOk result (λ made. AreParts plan.now made.0 made.1 made.2) }
 {
     let start = Start {
         pages: u64::from(PAGES),
@@ -114,11 +115,9 @@ fn replayed<N: Name, P: Rules + Drop, R: Abort>(
     requires start { blank.start ≡ N.facts.start }
     requires hands { length blank.rooms ≡ N.facts.hands }
     requires most { N.facts.most ≡ 0 }
-    requires parts { AreParts blank tables mapper }
-    requires rooms { blank.rooms ≡ rooms_for plan.now }
+    requires parts { AreParts plan.now blank tables mapper }
     requires good { P.good rules }
     requires sound { IsSound plan.now }
-    requires cap { IsCapOf N.facts.start.cap plan.now }
 {
     match Heap::<N>::open(alloc, blank, tables, mapper, Kept::new(rules)) {
         Ok((heap, mut core, mut hands)) => {

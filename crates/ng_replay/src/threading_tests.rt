@@ -1,9 +1,7 @@
 // Plans of two logs, done by threads.
 ghost use Rattle.std.specs.Prelude.{◌≡◌, ◌≤◌, length};
-ghost use Rattle.ng_group.specs.Tests.{AreParts};
 ghost use Rattle.ng_plan.specs.Sound.{IsSound};
-ghost use Rattle.ng_replay.specs.Books.{rooms_for};
-ghost use Rattle.ng_replay.specs.Serving.{IsCapOf};
+ghost use Rattle.ng_replay.specs.Tests.{AreParts};
 
 use crate::tests::{count, keep, log_of, parts, plan_of};
 use crate::{Crew, Gate, Open, threads};
@@ -42,12 +40,10 @@ fn replayed<
     requires start { blank.start ≡ N.facts.start }
     requires hands { length blank.rooms ≡ N.facts.hands }
     requires most { N.facts.most ≡ 0 }
-    requires parts { AreParts blank tables mapper }
-    requires rooms { blank.rooms ≡ rooms_for plan.now }
+    requires parts { AreParts plan.now blank tables mapper }
     requires few { length plan.now.logs ≤ 16 }
     requires good { P.good rules }
     requires sound { IsSound plan.now }
-    requires cap { IsCapOf N.facts.start.cap plan.now }
 {
     let Ok((boxes, doors)) = ng_post::open(alloc, plan) else {
         panic!(rt; "no memory for the boxes")
