@@ -78,6 +78,10 @@ module _ (v : View) (m i base room : ℕ) (has : HasSlotAt v m i base room) (who
         pub head_active : SeesIn w3 m i (base + 8) z
         head_active = p3.here
 
+        -- what is known in front of them still is
+        pub head_front : (a n : ℕ) → a < base → SeesIn v m i a n → SeesIn w3 m i a n
+        head_front a n below s = p3.kept a n (λ q. omega arith) (p2.kept a n (λ q. omega arith) (p1.kept a n (λ q. omega arith) s))
+
 -- ---- the header of the carrier
 units_24 : units_of 24 ≡ 146
 unfolding unit_table
@@ -232,6 +236,9 @@ module _ (v w : View) (c : Carrier) (d : Draft) (x : ℕ) (has : HasCarrier v c 
 
   pub header_only : OnlySlot v c.meta c.index w
   header_only = header_written.only
+
+  pub header_seen : SeesIn w c.meta c.index (d.base - 4) x
+  header_seen = header_written.here
 
   pub headed : HasSlotAt w c.meta c.index d.base c.stride
   headed = slot_after v w c.meta c.index d.base c.stride (carrier_at v c (draft_group d) has) header_written.only

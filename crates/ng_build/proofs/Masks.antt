@@ -12,7 +12,8 @@ use Rattle.ng_view.specs.Slots.{IsPlain}
 use Rattle.ng_view.specs.declared.view.Group.{Group}
 use Rattle.ng_view.specs.Groups.{AreMasks}
 use Rattle.ng_mask.proofs.Motion.{select_one}
-use Rattle.ng_build.specs.Written.{avail_of, freed_of}
+use Rattle.ng_build.specs.Drafts.{avail_of}
+use Rattle.ng_build.specs.Written.{freed_of}
 
 avail_is : (active : ℕ) → avail_of active ≡ 2 ^ (active + 1) - 2 ^ 1
 avail_is active = let p : 2 ^ 1 ≡ 2 = refl in omega arith

@@ -1,5 +1,5 @@
 -- A group is built in a slot, and published.
-use Rattle.std.proofs.Common.{◌≡◌, ℕ, ◌+◌, ◌*◌, ◌<◌, ◌≤◌, eqb, cond, List, [], ◌∷◌, refl, sym, ap, ◌∙◌, subst, ⊎_elim, inl, inr, arith}
+use Rattle.std.proofs.Common.{◌≡◌, ℕ, ◌+◌, ◌-◌, ◌*◌, ◌<◌, ◌≤◌, eqb, cond, List, [], ◌∷◌, refl, sym, ap, ◌∙◌, subst, ⊎_elim, inl, inr, arith}
 use Rattle.std.specs.Prelude.{Some}
 use Rattle.ng_rule.proofs.geometry.Lists.{find_among, is_at-true}
 use Rattle.ng_view.specs.Conditions.{Sees}
@@ -15,12 +15,13 @@ use Rattle.ng_meta.specs.Place.{IsMetaPlace}
 use Rattle.ng_view.specs.Groups.{BuildsNested, BuiltMeta, BuiltNested, IsLowHeader, Publishes, slot_published}
 use Rattle.ng_rule.proofs.lock.Knowing.{off_else}
 use Rattle.ng_build.specs.Cells.{IsIdleMeta, knowing}
-use Rattle.ng_build.specs.Drafts.{IsBlankMeta, IsCounted, draft_group}
-use Rattle.ng_build.specs.Nestings.{HasCarrier, OnlySlot, PublishesSlot, SeesIn, recalling, with_nested}
+use Rattle.ng_build.specs.Drafts.{IsBlankMeta, IsCounted, avail_of, draft_group}
+use Rattle.ng_build.specs.Nestings.{HasCarrier, HasWritten, OnlySlot, PublishesSlot, SeesIn, carrying_header, recalling, with_nested}
 use Rattle.ng_build.specs.declared.draft.Draft.{Draft}
 use Rattle.ng_build.specs.declared.nesting.Carrier.{Carrier}
-use Rattle.ng_build.specs.Written.{AreHeadersLow, KeepsIn, avail_of, freed_of, with_meta}
+use Rattle.ng_build.specs.Written.{AreHeadersLow, KeepsIn, freed_of, with_meta}
 use Rattle.ng_build.proofs.Cells.{by_cells}
+use Rattle.ng_build.proofs.Heads.{carrier_base}
 use Rattle.ng_build.proofs.Masks.{are_masks, is_bare, moves_first}
 use Rattle.ng_build.proofs.Metas.{built_meta, meta_kept, meta_view, meta_whole, several_plain}
 use Rattle.ng_build.proofs.Slots.{slot_both, slot_found, without-edit}
@@ -140,3 +141,14 @@ module _ (v w1 w2 : View) (c : Carrier) (d : Draft) (blank : IsBlankMeta v d.met
         kept = λ b x out s. subst (λ (y : View). Sees y b x) (sym is_published)
             (off_else d.meta (d.meta + 40) b x w3.desk.cells out (meta_kept w2 w3 d e3 b x out (subst (λ (y : View). Sees y b x) (sym only.view) s)));
       }
+
+-- what was written in the carrier is still known, once the headers and the meta are written
+pub written_kept : (w1 w2 w3 : View) (c : Carrier) (d : Draft) {v : View} → HasCarrier v c (draft_group d) → HasWritten w1 c d.base d.meta d.active → KeepsIn w1 w2 c.meta c.index (d.base + 12) → w3 ≡ with_meta w2 d → HasWritten w3 c d.base d.meta d.active
+written_kept w1 w2 w3 c d {v} has head kept e3 =
+    let front = carrier_base v c (draft_group d) has in
+    let then : (a x : ℕ) → a < d.base + 12 → SeesIn w1 c.meta c.index a x → SeesIn w3 c.meta c.index a x = λ a x lt s. subst (λ (y : View). SeesIn y c.meta c.index a x) (sym (meta_view w2 w3 d e3)) (kept a x lt s) in record {
+      header = then (d.base - 4) (carrying_header c d.base) (omega arith) head.header;
+      meta_low = then d.base d.meta (omega arith) head.meta_low;
+      meta_high = then (d.base + 4) 0 (omega arith) head.meta_high;
+      index = then (d.base + 8) d.active (omega arith) head.index;
+    }

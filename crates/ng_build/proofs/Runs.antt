@@ -15,10 +15,10 @@ use Rattle.ng_view.specs.Notes.{IsClearedRun, plain_run}
 use Rattle.ng_view.specs.Stores.{Stores}
 use Rattle.ng_rule.proofs.lock.Knowing.{off_else, sees-built}
 use Rattle.ng_build.specs.Cells.{IsIdleMeta, IsIdleRun, OnlyCells, knowing}
-use Rattle.ng_build.specs.Drafts.{FitsRun, IsBlankMeta, IsCounted, draft_group}
+use Rattle.ng_build.specs.Drafts.{FitsRun, IsBlankMeta, IsCounted, avail_of, draft_group}
 use Rattle.ng_build.specs.Runs.{IsMetaOutside, PublishesRun, with_group}
 use Rattle.ng_build.specs.declared.draft.Draft.{Draft}
-use Rattle.ng_build.specs.Written.{avail_of, freed_of, with_meta}
+use Rattle.ng_build.specs.Written.{freed_of, with_meta}
 use Rattle.ng_build.proofs.Areas.{run_cell, run_head}
 use Rattle.ng_build.proofs.Cells.{by_cells, idle_meta_only, idle_run_only, only_both, only_built, sees_else}
 use Rattle.ng_build.proofs.Masks.{are_masks, is_bare, moves_first}
@@ -143,6 +143,10 @@ module _ (v v1 v2 : View) (d : Draft) (pages : ℕ) (place : IsMetaPlace d.meta 
         masks = masks.apart;
         plain = masks.plain;
       }
+
+      -- the active index is known
+      pub run_index : Sees v3 (d.base + 8) d.active
+      run_index = in_run 8 d.active (omega arith) (sees-built v1 v2 (d.base + 8) d.active e2)
 
       pub run_builds : BuildsRun v3 d.meta d.class (avail_of d.active)
       run_builds = record { group = g; freed = freed_of d.active d.last; built = is_built; of_meta = refl; of_class = refl }

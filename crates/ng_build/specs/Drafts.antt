@@ -1,5 +1,6 @@
 -- Groups that are to be built.
-use Rattle.std.specs.Prelude.{◌⊎◌, ℕ, ◌+◌, ◌*◌, ◌<◌, ◌≤◌}
+use Rattle.std.specs.Prelude.{◌⊎◌, ℕ, ◌+◌, ◌-◌, ◌*◌, ◌<◌, ◌≤◌}
+use Rattle.ng_class.specs.Mask.{all_bits_of}
 use Rattle.ng_view.specs.Layouts.{IsLoneKind, IsSmallKind}
 use Rattle.ng_view.specs.Places.{reach, size_of}
 use Rattle.ng_view.specs.declared.view.Group.{Group}
@@ -16,6 +17,10 @@ draft_group d = record {
   last = d.last;
   maplen = d.maplen;
 }
+
+-- the bits of the slots 1 to active
+abbrev pub avail_of : ℕ → ℕ
+avail_of active = all_bits_of active - 1
 
 -- the meta has no live group, and its ten cells are known to be 0
 pub record IsBlankMeta (v : View) (meta : ℕ) : Type 0 where

@@ -1,5 +1,6 @@
 -- A group that comes to live in a slot of another.
-use Rattle.std.specs.Prelude.{◌≡◌, ℕ, ◌+◌, ◌<◌, ◌≤◌, eqb, cond, List, ◌∷◌, Some}
+use Rattle.std.specs.Prelude.{◌≡◌, ℕ, ◌+◌, ◌-◌, ◌/◌, ◌<◌, ◌≤◌, eqb, cond, List, ◌∷◌, Some}
+use Rattle.ng_header.specs.Header.{cell_with}
 use Rattle.ng_view.specs.Blocks.{Knows}
 use Rattle.ng_view.specs.Layouts.{IsNested}
 use Rattle.ng_view.specs.Lists.{edit, find, without}
@@ -37,6 +38,17 @@ pub record HasCarrier (v : View) (c : Carrier) (g : Group) : Type 0 where
   pub nested : IsNested g slot.place.group
   pub fits : reach g ≤ stride slot.place.group
   pub lower : g.tag < slot.place.group.tag
+
+-- the header of a carrier: the slot's index, the reserved field that tells of a group, and the slot's offset
+abbrev pub carrying_header : Carrier → ℕ → ℕ
+carrying_header c base = cell_with (record { check = 0; index = c.index; reserved = 6; offset = (base - c.storage) / 16 })
+
+-- it is known, and so is the head of the group at the slot's start: its meta, and the highest index in use
+pub record HasWritten (v : View) (c : Carrier) (base meta active : ℕ) : Type 0 where
+  pub header : SeesIn v c.meta c.index (base - 4) (carrying_header c base)
+  pub meta_low : SeesIn v c.meta c.index base meta
+  pub meta_high : SeesIn v c.meta c.index (base + 4) 0
+  pub index : SeesIn v c.meta c.index (base + 8) active
 
 -- the seat has the slot, which begins there and has the three cells of a group's head
 pub record HasHead (v : View) (meta index base : ℕ) : Type 0 where

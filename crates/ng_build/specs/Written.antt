@@ -8,11 +8,7 @@ use Rattle.ng_view.specs.declared.view.View.{View}
 use Rattle.ng_build.specs.declared.draft.Draft.{Draft}
 use Rattle.ng_build.specs.Nestings.{SeesIn}
 
--- the bits of the slots 1 to active
-abbrev pub avail_of : ℕ → ℕ
-avail_of active = all_bits_of active - 1
-
--- the bits of the slots behind them, to the last
+-- the bits of the slots behind the active one, to the last
 abbrev pub freed_of : ℕ → ℕ → ℕ
 freed_of active last = all_bits_of last - all_bits_of active
 

@@ -1,8 +1,8 @@
 ghost use Rattle.std.specs.Prelude.{◌≡◌, ◌+◌, ◌*◌, ◌%◌, ◌^◌, ◌<◌, ◌≤◌};
 ghost use Rattle.ng_meta.specs.Place.{IsMetaPlace};
 ghost use Rattle.ng_build.specs.Cells.{IsIdleMeta};
-ghost use Rattle.ng_build.specs.Drafts.{IsCounted};
-ghost use Rattle.ng_build.specs.Written.{avail_of, flags_of, freed_of, with_meta};
+ghost use Rattle.ng_build.specs.Drafts.{IsCounted, avail_of};
+ghost use Rattle.ng_build.specs.Written.{flags_of, freed_of, with_meta};
 
 use ng_class::all_bits;
 use ng_meta::{FLAGS, FREED, Fields, MEM, cells_of};

@@ -10,5 +10,5 @@ mod run;
 pub use area::make_area;
 pub use clearing::{clear_cells, clear_meta, drop_run};
 pub use draft::Draft;
-pub use nesting::{Carrier, clear_head, publish_slot};
-pub use run::publish_run;
+pub use nesting::{Carrier, clear_head, publish_carried, publish_slot, write_head};
+pub use run::{publish_mapped, publish_run};

@@ -1,7 +1,8 @@
 ghost use Rattle.std.specs.Prelude.{◌≡◌, ◌+◌, ◌*◌, ◌%◌, ◌^◌, ◌<◌, ◌≤◌};
 ghost use Rattle.ng_meta.specs.Place.{IsMetaPlace};
-ghost use Rattle.ng_build.specs.Drafts.{IsBlankMeta, IsCounted, draft_group};
-ghost use Rattle.ng_build.specs.Nestings.{HasCarrier, HasHead, OnlySlot, PublishesSlot, SeesIn};
+ghost use Rattle.ng_view.specs.Groups.{MayPublish, Publishes};
+ghost use Rattle.ng_build.specs.Drafts.{IsBlankMeta, IsCounted, avail_of, draft_group};
+ghost use Rattle.ng_build.specs.Nestings.{HasCarrier, HasHead, HasWritten, OnlySlot, PublishesSlot, SeesIn};
 ghost use Rattle.ng_build.specs.Written.{AreHeadersLow, HasHeaders, KeepsIn};
 
 use crate::draft::{Draft, write_meta};
@@ -47,18 +48,39 @@ pub fn publish_slot<N: Name>(
     write_head(space, seat, draft, parent);
     write_headers(space, seat, draft, parent);
     write_meta(space, seat, draft);
+    publish_carried(space, seat, draft, parent);
+}
+
+/// Makes a group live that is written in its carrier, whose header and head are known: a group that
+/// lives in a slot began with them.
+pub fn publish_carried<N: Name>(
+    space: &Space<N>,
+    seat: &mut LockSeat<N>,
+    draft: &Draft,
+    _parent: &Carrier,
+)
+    requires place { IsMetaPlace draft.now.meta N.facts.start.pages }
+    requires counted { IsCounted draft.now }
+    requires built { MayPublish seat.old draft.now.meta draft.now.class (avail_of draft.now.active) }
+    requires written { HasWritten seat.old _parent.now draft.now.base draft.now.meta draft.now.active }
+    ensures { Publishes seat.old draft.now.meta draft.now.class (avail_of draft.now.active) seat.new }
+{
     space.publish(seat, draft.meta, draft.class, draft.avail());
 }
 
-// The header of the carrier, and the three cells at the group's base.
-fn write_head<N: Name>(space: &Space<N>, seat: &mut LockSeat<N>, draft: &Draft, parent: &Carrier)
+/// Stores the header of a carrier, and the head of the group at its start.
+pub fn write_head<N: Name>(
+    space: &Space<N>,
+    seat: &mut LockSeat<N>,
+    draft: &Draft,
+    parent: &Carrier,
+)
     requires meta { draft.now.meta < 2 ^ 32 }
     requires whole { draft.now.base % 16 ≡ 0 }
     requires inside { draft.now.base + parent.now.stride ≤ 4096 * N.facts.start.pages }
     requires carrier { HasCarrier seat.old parent.now (draft_group draft.now) }
     ensures view { OnlySlot seat.old parent.now.meta parent.now.index seat.new }
-    ensures base { SeesIn seat.new parent.now.meta parent.now.index draft.now.base draft.now.meta }
-    ensures base_high { SeesIn seat.new parent.now.meta parent.now.index (draft.now.base + 4) 0 }
+    ensures written { HasWritten seat.new parent.now draft.now.base draft.now.meta draft.now.active }
 {
     let offset = (draft.base - parent.storage) / UNIT;
     let header = Ib {

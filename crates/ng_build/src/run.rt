@@ -1,7 +1,9 @@
 ghost use Rattle.std.specs.Prelude.{◌≡◌, ◌+◌, ◌*◌, ◌%◌, ◌≤◌};
 ghost use Rattle.ng_meta.specs.Place.{IsMetaPlace};
+ghost use Rattle.ng_view.specs.Conditions.{Sees};
+ghost use Rattle.ng_view.specs.Groups.{MayPublish, Publishes};
 ghost use Rattle.ng_view.specs.Notes.{IsClearedRun};
-ghost use Rattle.ng_build.specs.Drafts.{FitsRun, IsBlankMeta, IsCounted, draft_group};
+ghost use Rattle.ng_build.specs.Drafts.{FitsRun, IsBlankMeta, IsCounted, avail_of, draft_group};
 ghost use Rattle.ng_build.specs.Runs.{IsMetaOutside, PublishesRun};
 
 use crate::draft::{Draft, write_meta};
@@ -25,5 +27,17 @@ pub fn publish_run<N: Name>(space: &Space<N>, seat: &mut LockSeat<N>, draft: &Dr
     space.store_page(seat, draft.base, draft.meta as u32);
     space.store_page(seat, draft.base + ACTIVE, draft.active);
     write_meta(space, seat, draft);
+    publish_mapped(space, seat, draft);
+}
+
+/// Makes a group live that is written on its run, whose active index is known: a group that lives on
+/// a run began with it.
+pub fn publish_mapped<N: Name>(space: &Space<N>, seat: &mut LockSeat<N>, draft: &Draft)
+    requires place { IsMetaPlace draft.now.meta N.facts.start.pages }
+    requires counted { IsCounted draft.now }
+    requires built { MayPublish seat.old draft.now.meta draft.now.class (avail_of draft.now.active) }
+    requires index { Sees seat.old (draft.now.base + 8) draft.now.active }
+    ensures { Publishes seat.old draft.now.meta draft.now.class (avail_of draft.now.active) seat.new }
+{
     space.publish(seat, draft.meta, draft.class, draft.avail());
 }

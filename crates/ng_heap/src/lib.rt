@@ -16,6 +16,8 @@ pub use ng_terms::AllocRefusal;
 pub use shared::SharedHeap;
 
 #[cfg(test)]
+mod area_tests;
+#[cfg(test)]
 mod shared_tests;
 #[cfg(test)]
 mod tests;

@@ -1,9 +1,11 @@
 -- What holds of the lock's seat holds after its steps.
-use Rattle.std.proofs.Common.{◌≡◌, ◌⊎◌, ℕ, List, [], ◌∷◌, ◌++◌, map, ap, ◌∙◌, subst, ⊎_elim, inl, inr}
+use Rattle.std.proofs.Common.{◌≡◌, ◌⊎◌, ℕ, ◌+◌, ◌*◌, ◌<◌, List, [], ◌∷◌, ◌++◌, map, ap, ◌∙◌, subst, ⊎_elim, inl, inr, arith}
 use Rattle.std.specs.Prelude.{None}
 use Rattle.atomic_table.specs.declared.shared.Seat.{Seat}
 use Rattle.ng_history.specs.Book as book
+use Rattle.ng_meta.specs.Place.{IsMetaPlace}
 use Rattle.ng_rule.proofs.geometry.Lists.{among_without}
+use Rattle.ng_view.specs.Fetches.{HasGroup}
 use Rattle.ng_view.specs.Lists.{Among, without}
 use Rattle.ng_view.specs.LockSteps.{let_go}
 use Rattle.ng_view.specs.Steps.{in_motion}
@@ -17,8 +19,12 @@ use Rattle.ng_space.specs.Seats.{IsLockSeat}
 abbrev pub AreStill : List Held → List Held → Type 0
 AreStill before after = (h : Held) → Among h after → Among h before ⊎ (h.block ≡ None)
 
+-- the groups of the view after are ones of the view before, or have metas of the space
+abbrev pub ArePlacedStill : ℕ → List Group → List Group → Type 0
+ArePlacedStill pages before after = (g : Group) → Among g after → Among g before ⊎ IsMetaPlace g.meta pages
+
 -- the view after is like the one before in what makes it the lock's
-pub record IsAlike (v w : View) : Type 0 where
+pub record IsAlike (pages : ℕ) (v w : View) : Type 0 where
   pub leads : w.leads ≡ v.leads
   pub parcel : w.parcel ≡ v.parcel
   pub books : w.books ≡ v.books
@@ -26,8 +32,9 @@ pub record IsAlike (v w : View) : Type 0 where
   pub taken : w.taken ≡ v.taken
   pub next : w.desk.next ≡ v.desk.next
   pub still : AreStill v.held w.held
+  pub groups : ArePlacedStill pages v.desk.groups w.desk.groups
 
-pub lock_stays : (facts : Facts) (s t : Seat (Unit {0}) View) (shelf : List book.Shown) (room : ℕ) (w : View) → IsLockSeat facts s shelf room → t.table_id ≡ s.table_id → t.me.1 ≡ s.me.1 → t.me.0 ≡ w → IsAlike s.me.0 w → IsLockSeat facts t shelf room
+pub lock_stays : (facts : Facts) (s t : Seat (Unit {0}) View) (shelf : List book.Shown) (room : ℕ) (w : View) → IsLockSeat facts s shelf room → t.table_id ≡ s.table_id → t.me.1 ≡ s.me.1 → t.me.0 ≡ w → IsAlike facts.start.pages s.me.0 w → IsLockSeat facts t shelf room
 lock_stays facts s t shelf room w is same_table same_slots view alike = record {
   fits = same_table ∙ is.fits;
   no_slots = same_slots ∙ is.no_slots;
@@ -37,6 +44,7 @@ lock_stays facts s t shelf room w is same_table same_slots view alike = record {
   none_sent = ap (λ (v : View). v.sent) view ∙ alike.sent ∙ is.none_sent;
   none_taken = ap (λ (v : View). v.taken) view ∙ alike.taken ∙ is.none_taken;
   moving = λ h q. ⊎_elim (λ (t : Among h s.me.0.held). is.moving h t) (λ (none : h.block ≡ None). none) (alike.still h (subst (λ (v : View). Among h v.held) view q));
+  placed = λ g q. ⊎_elim (λ (t : Among g s.me.0.desk.groups). is.placed g t) (λ (p : IsMetaPlace g.meta facts.start.pages). p) (alike.groups g (subst (λ (v : View). Among g v.desk.groups) view q));
   next = ap (λ (v : View). v.desk.next) view ∙ alike.next ∙ is.next;
   few = is.few;
   cleared = is.cleared;
@@ -53,3 +61,9 @@ still-fetched g (i ∷ is) hs h (inr s) = still-fetched g is hs h s
 pub still-let_go : (m : ℕ) (is : List ℕ) (hs : List Held) → AreStill hs (let_go m is hs)
 still-let_go m [] hs h s = inl s
 still-let_go m (i ∷ is) hs h s = ⊎_elim (λ (t : Among h (without m i hs)). inl (among_without m i hs h t)) (λ (none : h.block ≡ None). inr none) (still-let_go m is (without m i hs) h s)
+
+-- a word of a live group's meta lies in the space
+pub word_inside : (facts : Facts) (s : Seat (Unit {0}) View) (shelf : List book.Shown) (room meta b : ℕ) → IsLockSeat facts s shelf room → HasGroup s.me.0 meta → b < 40 → meta + b < 4096 * facts.start.pages
+word_inside facts s shelf room meta b is has below =
+    let place = subst (λ m. IsMetaPlace m facts.start.pages) has.of_meta (is.placed has.group has.there) in
+    let inside = place.inside in let counted = place.counted in let stands = place.stands in omega arith

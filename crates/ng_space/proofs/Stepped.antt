@@ -19,35 +19,44 @@ use Rattle.ng_space.specs.Seats.{IsLockSeat}
 use Rattle.ng_space.proofs.Locked.{IsAlike, lock_stays}
 
 -- the same slots
-pub alike : (v w : View) → w.leads ≡ v.leads → w.parcel ≡ v.parcel → w.books ≡ v.books → w.sent ≡ v.sent → w.taken ≡ v.taken → w.desk.next ≡ v.desk.next → w.held ≡ v.held → IsAlike v w
-alike v w a b c d e f held = record { leads = a; parcel = b; books = c; sent = d; taken = e; next = f; still = λ h s. inl (subst (Among h) held s) }
+pub alike : (pages : ℕ) (v w : View) → w.leads ≡ v.leads → w.parcel ≡ v.parcel → w.books ≡ v.books → w.sent ≡ v.sent → w.taken ≡ v.taken → w.desk.next ≡ v.desk.next → w.held ≡ v.held → w.desk.groups ≡ v.desk.groups → IsAlike pages v w
+alike pages v w a b c d e f held groups = record {
+  leads = a;
+  parcel = b;
+  books = c;
+  sent = d;
+  taken = e;
+  next = f;
+  still = λ h s. inl (subst (Among h) held s);
+  groups = λ g s. inl (subst (Among g) groups s);
+}
 
 module _ (facts : Facts) (s t : Seat (Unit {0}) View) (shelf : List book.Shown) (room : ℕ) (is : IsLockSeat facts s shelf room) (same_table : t.table_id ≡ s.table_id) (same_slots : t.me.1 ≡ s.me.1) where
   abbrev v : View
   v = s.me.0
 
   -- the slots are as before
-  pub quietly : (w : View) → t.me.0 ≡ w → w.leads ≡ v.leads → w.parcel ≡ v.parcel → w.books ≡ v.books → w.sent ≡ v.sent → w.taken ≡ v.taken → w.desk.next ≡ v.desk.next → w.held ≡ v.held → IsLockSeat facts t shelf room
-  quietly w e a b c d x f held = lock_stays facts s t shelf room w is same_table same_slots e (alike v w a b c d x f held)
+  pub quietly : (w : View) → t.me.0 ≡ w → w.leads ≡ v.leads → w.parcel ≡ v.parcel → w.books ≡ v.books → w.sent ≡ v.sent → w.taken ≡ v.taken → w.desk.next ≡ v.desk.next → w.held ≡ v.held → w.desk.groups ≡ v.desk.groups → IsLockSeat facts t shelf room
+  quietly w e a b c d x f held groups = lock_stays facts s t shelf room w is same_table same_slots e (alike facts.start.pages v w a b c d x f held groups)
 
   ring : (ls ba bf : List ℕ) (sf : List (ℕ × ℕ)) (a n : ℕ) → t.me.0 ≡ read (ring_noted v ls ba bf sf) a n → IsLockSeat facts t shelf room
-  ring ls ba bf sf a n e = quietly (read (ring_noted v ls ba bf sf) a n) e refl refl refl refl refl refl refl
+  ring ls ba bf sf a n e = quietly (read (ring_noted v ls ba bf sf) a n) e refl refl refl refl refl refl refl refl
 
   pub looks_stays : (a n : ℕ) → Loads v a n t.me.0 → IsLockSeat facts t shelf room
   looks_stays a n told = ⊎_elim
-      (λ (b : Builds v a). quietly (read (learnt_free v a n) a n) (told.page b) refl refl refl refl refl refl refl)
+      (λ (b : Builds v a). quietly (read (learnt_free v a n) a n) (told.page b) refl refl refl refl refl refl refl refl)
       (λ (not : Builds v a → ⊥). ⊎_elim
       (λ (r : (g : Group) × Among g v.desk.groups × (a ≡ g.meta + 24)). ring v.desk.listed (cond (eqb (n % 4294967296) 0) (r.0.meta ∷ v.desk.zero_avail) v.desk.zero_avail) v.desk.zero_freed v.desk.set_freed a n (told.avail r.0 r.1 r.2))
       (λ (none : (g : Group) → Among g v.desk.groups → a ≡ g.meta + 24 → ⊥). ⊎_elim
       (λ (r : (g : Group) × Among g v.desk.groups × (a ≡ g.meta + 28)). ring v.desk.listed v.desk.zero_avail (cond (eqb n 0) (r.0.meta ∷ v.desk.zero_freed) v.desk.zero_freed) (read_bits r.0.meta n ++ v.desk.set_freed) a n (told.freed r.0 r.1 r.2))
-      (λ (nor : (g : Group) → Among g v.desk.groups → a ≡ g.meta + 28 → ⊥). quietly (read v a n) (told.other (record { not_built = not; no_avail = none; no_freed = nor })) refl refl refl refl refl refl refl)
+      (λ (nor : (g : Group) → Among g v.desk.groups → a ≡ g.meta + 28 → ⊥). quietly (read v a n) (told.other (record { not_built = not; no_avail = none; no_freed = nor })) refl refl refl refl refl refl refl refl)
       (decide_mask v a 28))
       (decide_mask v a 24))
       (decide_builds v a)
 
   pub stores_stays : (a x : ℕ) → MayStore v a x → Stores v a x t.me.0 → IsLockSeat facts t shelf room
-  stores_stays a x (inl b) told = quietly (built v a x) (told.page b) refl refl refl refl refl refl refl
-  stores_stays a x (inr (inl i)) told = quietly v (told.index i) refl refl refl refl refl refl refl
+  stores_stays a x (inl b) told = quietly (built v a x) (told.page b) refl refl refl refl refl refl refl refl
+  stores_stays a x (inr (inl i)) told = quietly v (told.index i) refl refl refl refl refl refl refl refl
   stores_stays a x (inr (inr f)) told =
       let c = f.cell in let m = c.slot.place.group.meta in let i = c.slot.place.index in
       lock_stays facts s t shelf room (stored v m i a x) is same_table same_slots (told.slot c) (record {
@@ -57,5 +66,6 @@ module _ (facts : Facts) (s t : Seat (Unit {0}) View) (shelf : List book.Shown) 
         sent = refl;
         taken = refl;
         next = refl;
+        groups = λ g q. inl q;
         still = λ h q. ⊎_elim (λ (p : Among h v.held). inl p) (λ (e : h ≡ wrote a x c.slot). inr (subst (λ (y : Held). y.block ≡ None) (sym e) (is.moving c.slot (Rattle.ng_rule.proofs.geometry.Lists.find_among m i v.held c.slot c.found).0))) (among_edit m i (wrote a x) v.held c.slot h c.found q);
       })

@@ -16,3 +16,4 @@ pub mod Blocks
 pub mod Parcels
 pub mod Packed
 pub mod Leaving
+pub mod FirstPage

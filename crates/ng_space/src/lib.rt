@@ -6,6 +6,7 @@ mod block;
 mod close;
 mod excuse;
 mod fetch;
+mod first_page;
 mod giving;
 mod hand;
 mod image;

@@ -49,7 +49,6 @@ impl<N: Name> Space<N> {
     /// Ends a group, of which every slot is in the seat, in motion. Its cells and those of its meta are
     /// the seat's to clear; the slot that carried it is in motion again.
     pub fn retire(&self, seat: &mut LockSeat<N>, meta: u64)
-        requires place { IsMetaPlace meta N.facts.start.pages }
         requires slots { HasAllSlots seat.old meta }
         ensures { Retires seat.old meta seat.new }
     {

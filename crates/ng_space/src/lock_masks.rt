@@ -1,6 +1,5 @@
 // The fetches of the lock's seat on the masks of live groups.
 ghost use Rattle.std.specs.Prelude.{◌≡◌, ℕ, ◌%◌, ◌^◌};
-ghost use Rattle.ng_meta.specs.Place.{IsMetaPlace};
 ghost use Rattle.ng_view.specs.Lists.{Among};
 ghost use Rattle.ng_view.specs.Fetches.{ClearsFreed, EmptiesAvail, HasGroup, MayPutBack, PushesFreed, StocksAvail};
 
@@ -17,7 +16,6 @@ impl<N: Name> Space<N> {
     /// Empties the avail mask of a live group, and answers it. The slots of its bits are in the seat,
     /// in motion, and the mask is noted as 0.
     pub fn empty_avail(&self, seat: &mut LockSeat<N>, meta: u64) -> u32
-        requires place { IsMetaPlace meta N.facts.start.pages }
         requires live { HasGroup seat.old meta }
         ensures { (word : ℕ) × (result ≡ word % 2 ^ 32) × EmptiesAvail seat.old meta word seat.new }
     {
@@ -28,7 +26,6 @@ impl<N: Name> Space<N> {
     /// Clears these bits in the freed mask of a live group, and answers the mask found. The slots of
     /// the bits that were set are in the seat, in motion; where no bit is left, the mask is noted as 0.
     pub fn clear_freed(&self, seat: &mut LockSeat<N>, meta: u64, bits: u32) -> u32
-        requires place { IsMetaPlace meta N.facts.start.pages }
         requires live { HasGroup seat.old meta }
         ensures { ClearsFreed seat.old meta bits result seat.new }
     {
@@ -39,7 +36,6 @@ impl<N: Name> Space<N> {
     /// Sets these bits in the avail mask of a group, which is noted as 0. Their slots, which were in the
     /// seat in motion, are out of it.
     pub fn stock_avail(&self, seat: &mut LockSeat<N>, meta: u64, bits: u32)
-        requires place { IsMetaPlace meta N.facts.start.pages }
         requires slots { MayPutBack seat.old meta bits }
         requires zero { Among meta seat.old.desk.zero_avail }
         ensures { (word : ℕ) × StocksAvail seat.old meta bits word seat.new }
@@ -51,7 +47,6 @@ impl<N: Name> Space<N> {
     /// Sets these bits in the freed mask of a group, and answers the mask found. Their slots, which were
     /// in the seat in motion, are out of it.
     pub fn push_parent(&self, seat: &mut LockSeat<N>, meta: u64, bits: u32) -> u32
-        requires place { IsMetaPlace meta N.facts.start.pages }
         requires slots { MayPutBack seat.old meta bits }
         ensures { PushesFreed seat.old meta bits result seat.new }
     {

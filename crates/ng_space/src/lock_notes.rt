@@ -1,6 +1,5 @@
 // The notes of the lock's seat: each is one load, at which its view changes.
 ghost use Rattle.std.specs.Prelude.{◌≡◌, ℕ, ◌*◌, ◌/◌, ◌<◌};
-ghost use Rattle.ng_meta.specs.Place.{IsMetaPlace};
 ghost use Rattle.ng_view.specs.Conditions.{AreaBuilt};
 ghost use Rattle.ng_view.specs.May.{May};
 ghost use Rattle.ng_view.specs.Fetches.{HasGroup};
@@ -19,7 +18,6 @@ impl<N: Name> Space<N> {
     /// Reads the freed mask of a live group, which is the answer, and notes where the group stands:
     /// listed in a ring, or, where both its masks are 0, no more listed.
     pub fn note_ring(&self, seat: &mut LockSeat<N>, meta: u64, listed: bool) -> u32
-        requires place { IsMetaPlace meta N.facts.start.pages }
         requires live { HasGroup seat.old meta }
         ensures { NotesRing seat.old meta listed result seat.new }
     {

@@ -1,6 +1,7 @@
-use Rattle.std.proofs.Common.{◌-◌, ◌/◌, inr, refl, arith}
+use Rattle.std.proofs.Common.{◌-◌, ◌/◌, inr, refl, subst, arith}
 use Rattle.ng_build.specs.Drafts.{draft_group}
-use Rattle.ng_build.proofs.Heads.{base_fits, carrier_roomy, head_1, head_2, head_base, head_fits, head_high, head_only, headed, header_fits, header_only, in_range}
+use Rattle.ng_build.specs.Nestings.{SeesIn, carrying_header}
+use Rattle.ng_build.proofs.Heads.{base_fits, carrier_base, carrier_roomy, head_1, head_2, head_active, head_base, head_fits, head_front, head_high, head_only, headed, header_fits, header_only, header_seen, in_range}
 use Rattle.ng_build.proofs.Slots.{slot_both}
 use Rattle.ng_build.proofs.nesting.write_head.Goals as goal
 
@@ -44,16 +45,16 @@ returns-clause-view g c =
     slot_both _ _ _ p.meta p.index (header_only _ _ p d _ c.requires.carrier c.requires.whole c.store_page.ensures)
     (head_only _ p.meta p.index d.base p.stride has c.requires.whole (omega arith) _ _ _ d.meta 0 d.active c.store_page-2.ensures c.store_page-3.ensures c.store_page-4.ensures)
 
-pub returns-clause-base : goal.returns-clause-base
-returns-clause-base g c =
+pub returns-clause-written : goal.returns-clause-written
+returns-clause-written g c =
     let p = c.args.parent.now in let d = c.args.draft.now in
     let room = carrier_roomy _ p d c.requires.carrier in
-    let has = headed _ _ p d _ c.requires.carrier c.requires.whole c.store_page.ensures in
-    head_base _ p.meta p.index d.base p.stride has c.requires.whole (omega arith) _ _ _ d.meta 0 d.active c.store_page-2.ensures c.store_page-3.ensures c.store_page-4.ensures
-
-pub returns-clause-base_high : goal.returns-clause-base_high
-returns-clause-base_high g c =
-    let p = c.args.parent.now in let d = c.args.draft.now in
-    let room = carrier_roomy _ p d c.requires.carrier in
-    let has = headed _ _ p d _ c.requires.carrier c.requires.whole c.store_page.ensures in
-    head_high _ p.meta p.index d.base p.stride has c.requires.whole (omega arith) _ _ _ d.meta 0 d.active c.store_page-2.ensures c.store_page-3.ensures c.store_page-4.ensures
+    let front = carrier_base _ p (draft_group d) c.requires.carrier in
+    let seen = header_seen _ _ p d _ c.requires.carrier c.requires.whole c.store_page.ensures in
+    let has = headed _ _ p d _ c.requires.carrier c.requires.whole c.store_page.ensures in record {
+      header = head_front _ p.meta p.index d.base p.stride has c.requires.whole (omega arith) _ _ _ d.meta 0 d.active c.store_page-2.ensures c.store_page-3.ensures c.store_page-4.ensures (d.base - 4) (carrying_header p d.base) (omega arith)
+          (subst (λ n. SeesIn c.store_page.new.seat p.meta p.index (d.base - 4) n) c.cell_of.ensures.cell seen);
+      meta_low = head_base _ p.meta p.index d.base p.stride has c.requires.whole (omega arith) _ _ _ d.meta 0 d.active c.store_page-2.ensures c.store_page-3.ensures c.store_page-4.ensures;
+      meta_high = head_high _ p.meta p.index d.base p.stride has c.requires.whole (omega arith) _ _ _ d.meta 0 d.active c.store_page-2.ensures c.store_page-3.ensures c.store_page-4.ensures;
+      index = head_active _ p.meta p.index d.base p.stride has c.requires.whole (omega arith) _ _ _ d.meta 0 d.active c.store_page-2.ensures c.store_page-3.ensures c.store_page-4.ensures;
+    }

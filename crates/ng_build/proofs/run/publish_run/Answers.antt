@@ -1,7 +1,6 @@
-use Rattle.std.proofs.Common.{sym, subst, inl, refl, arith}
-use Rattle.ng_view.specs.Groups.{MayPublish, Publishes}
+use Rattle.std.proofs.Common.{inl, refl, arith}
 use Rattle.ng_build.proofs.Areas.{run_cell, run_head}
-use Rattle.ng_build.proofs.Runs.{idle_2, run_1, run_builds, run_publishes}
+use Rattle.ng_build.proofs.Runs.{idle_2, run_1, run_builds, run_index, run_publishes}
 use Rattle.ng_build.proofs.run.publish_run.Goals as goal
 
 pub store_page-requires-clause-may : goal.store_page-requires-clause-may
@@ -16,11 +15,14 @@ store_page-requires-2-clause-may g c =
 pub write_meta-requires-clause-idle : goal.write_meta-requires-clause-idle
 write_meta-requires-clause-idle g c = idle_2 _ _ _ c.args.draft.now g.N.Name.facts.start.pages c.requires.place c.requires.meta c.requires.whole c.requires.some c.requires.run c.store_page.ensures c.store_page-2.ensures
 
-pub publish-requires-clause-built : goal.publish-requires-clause-built
-publish-requires-clause-built g c = subst (MayPublish c.write_meta.new.seat c.args.draft.now.meta c.args.draft.now.class) (sym c.avail.ensures) (inl (run_builds _ _ _ c.args.draft.now g.N.Name.facts.start.pages c.requires.place c.requires.meta c.requires.whole c.requires.some c.requires.run c.store_page.ensures c.store_page-2.ensures
-    c.requires.apart c.requires.counted c.requires.shape _ c.write_meta.ensures))
+pub publish_mapped-requires-clause-built : goal.publish_mapped-requires-clause-built
+publish_mapped-requires-clause-built g c = inl (run_builds _ _ _ c.args.draft.now g.N.Name.facts.start.pages c.requires.place c.requires.meta c.requires.whole c.requires.some c.requires.run c.store_page.ensures c.store_page-2.ensures
+    c.requires.apart c.requires.counted c.requires.shape _ c.write_meta.ensures)
+
+pub publish_mapped-requires-clause-index : goal.publish_mapped-requires-clause-index
+publish_mapped-requires-clause-index g c = run_index _ _ _ c.args.draft.now g.N.Name.facts.start.pages c.requires.place c.requires.meta c.requires.whole c.requires.some c.requires.run c.store_page.ensures c.store_page-2.ensures
+    c.requires.apart c.requires.counted c.requires.shape _ c.write_meta.ensures
 
 pub returns : goal.returns
 returns g c = run_publishes _ _ _ c.args.draft.now g.N.Name.facts.start.pages c.requires.place c.requires.meta c.requires.whole c.requires.some c.requires.run c.store_page.ensures c.store_page-2.ensures
-    c.requires.apart c.requires.counted c.requires.shape _ c.write_meta.ensures _
-    (subst (λ m. Publishes c.write_meta.new.seat c.args.draft.now.meta c.args.draft.now.class m c.publish.new.seat) c.avail.ensures c.publish.ensures)
+    c.requires.apart c.requires.counted c.requires.shape _ c.write_meta.ensures _ c.publish_mapped.ensures

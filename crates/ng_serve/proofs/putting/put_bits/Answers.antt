@@ -1,8 +1,8 @@
 use Rattle.ng_serve.proofs.Puts.{puts_bits, puts_none, some_bits}
 use Rattle.ng_serve.proofs.putting.put_bits.Goals as goal
 
-pub push_parent-requires-clause-slots : goal.push_parent-requires-clause-slots
-push_parent-requires-clause-slots g c = c.requires.may (some_bits c.args.bits c.if-bits-ne0.true)
+pub push_parent-requires : goal.push_parent-requires
+push_parent-requires g c = record { slots = (c.requires.may (some_bits c.args.bits c.if-bits-ne0.true)) }
 
 pub returns-then-bits-ne0 : goal.returns-then-bits-ne0
 returns-then-bits-ne0 g c = puts_bits _ _ c.args.meta c.args.bits _ c.if-bits-ne0.true c.push_parent.ensures

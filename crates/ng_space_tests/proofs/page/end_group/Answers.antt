@@ -4,9 +4,6 @@ use Rattle.ng_space_tests.proofs.Endings.{builds-old_meta, builds-old_run, ends_
 use Rattle.ng_space_tests.proofs.Pages.{page_place}
 use Rattle.ng_space_tests.proofs.page.end_group.Goals as goal
 
-pub retire-requires-clause-place : goal.retire-requires-clause-place
-retire-requires-clause-place g c = page_place _ c.requires.start
-
 pub clear-requires-clause-builds : goal.clear-requires-clause-builds
 clear-requires-clause-builds g c = let v = c.retire.new.seat in builds-old_meta _ v v v (page_group (c.requires.stands.0) (c.requires.stands.1)) refl c.requires.stands.2 c.requires.metas c.retire.ensures
 

@@ -9,12 +9,14 @@ use Rattle.ng_space_tests.proofs.pair_tests.pass_back.Goals as goal
 pub use_slot-slot-requires-clause-serves : goal.use_slot-slot-requires-clause-serves
 use_slot-slot-requires-clause-serves g c = let wins = c.in-Won.ensures.cause in popped_serves _ _ c.in-Won.slot _ c.in-Won.ensures.meta wins.pops wins.slots.tag
 
-pub capture-requires-clause-live : goal.capture-requires-clause-live
-capture-requires-clause-live g c =
-    let same = c.in-Left.ensures.left ∙ c.use_slot-slot.ensures.slot in
-    let meta = ap (λ (slot : Token). slot.meta) same ∙ c.in-Won.ensures.meta in
-    let index : c.in-Left.slot.index ≡ 1 = ap (λ (slot : Token). slot.index) same ∙ omega arith in
-    has_pair _ (came_stands _ _ _ _ c.requires.stands c.requires.metas c.requires.slot c.in-Left.ensures.held meta index c.slot_to_seat.ensures.seat)
+pub capture-requires : goal.capture-requires
+capture-requires g c = record {
+  live = (
+      let same = c.in-Left.ensures.left ∙ c.use_slot-slot.ensures.slot in
+      let meta = ap (λ (slot : Token). slot.meta) same ∙ c.in-Won.ensures.meta in
+      let index : c.in-Left.slot.index ≡ 1 = ap (λ (slot : Token). slot.index) same ∙ omega arith in
+      has_pair _ (came_stands _ _ _ _ c.requires.stands c.requires.metas c.requires.slot c.in-Left.ensures.held meta index c.slot_to_seat.ensures.seat));
+}
 
 pub returns-clause-stands : goal.returns-clause-stands
 returns-clause-stands g c =

@@ -31,8 +31,8 @@ publish_run-requires-clause-apart g c =
     let may = may_build_lone g.N.Name.facts.start g.M.Mapper.span g.M.Mapper.runs g.M.Mapper.refused c.args.meta c.self.view_is c.requires.working c.requires.meta in
     meta_outside c.in_ok-base.ensures.ok may.hand.free (g.M.Mapper.span c.map_run.new.mapper) (g.M.Mapper.runs c.map_run.new.mapper) (g.met.M.Mapper.laid c.map_run.new.mapper) c.in_ok-base.ensures.mapper.mapped
 
-pub note_ring-requires-clause-live : goal.note_ring-requires-clause-live
-note_ring-requires-clause-live g c = lone_live c.publish_run.ensures
+pub note_ring-requires : goal.note_ring-requires
+note_ring-requires g c = record { live = (lone_live c.publish_run.ensures) }
 
 -- the group that came, and the books before it
 abbrev group : (g : Over) (c : goal.After-note_ring g) → Group

@@ -9,11 +9,13 @@ use Rattle.ng_group.proofs.ServingLemmas.{live_at, member_place}
 use Rattle.ng_group.proofs.WorkingLemmas.{only_then}
 use Rattle.ng_group.proofs.works.Works.serve_ring.Goals as goal
 
-pub pop_core-requires-clause-live : goal.pop_core-requires-clause-live
-pop_core-requires-clause-live g c =
+pub pop_core-requires : goal.pop_core-requires
+pop_core-requires g c = record {
+  live = (
     let begins : slice_get (ring_of c.args.self.now.rings c.args.class) 0 ≡ Some c.in_ok-first.first =
     subst (λ (s : State g.row.M.Denot g.row.P.Denot). slice_get (ring_of s.rings c.args.class) 0 ≡ Some c.in_ok-first.first) c.self.view_is (sym c.in_ok-first.ensures.first) in
-    live_at g.N.Name.facts.start g.M.Mapper.span g.M.Mapper.runs g.M.Mapper.refused _ _ c.args.class c.in_ok-first.first c.self.view_is c.requires.working c.requires.class (Contains-first (ring_of c.args.self.now.rings c.args.class) c.in_ok-first.first (sym begins))
+    live_at g.N.Name.facts.start g.M.Mapper.span g.M.Mapper.runs g.M.Mapper.refused _ _ c.args.class c.in_ok-first.first c.self.view_is c.requires.working c.requires.class (Contains-first (ring_of c.args.self.now.rings c.args.class) c.in_ok-first.first (sym begins)));
+}
 
 pub refill-requires-clause-working : goal.refill-requires-clause-working
 refill-requires-clause-working g c =
@@ -66,12 +68,6 @@ returns-in-None-clause-source g c =
     subst (λ (s : State g.row.M.Denot g.row.P.Denot). slice_get (ring_of s.rings c.args.class) 0 ≡ Some c.in_ok-first.first) c.self.view_is (sym c.in_ok-first.ensures.first) in
     if_some c.refill.result c.refill.ensures.decays
     (λ decays. served_freed _ c.args.self.now c.refill.new.self c.args.class c.in_ok-first.first c.pop_core.new.seat c.self.view_is begins c.in-None.ensures.none c.refill.ensures.only decays)
-
-pub pop_core-requires-clause-place : goal.pop_core-requires-clause-place
-pop_core-requires-clause-place g c =
-    let begins : slice_get (ring_of c.args.self.now.rings c.args.class) 0 ≡ Some c.in_ok-first.first =
-    subst (λ (s : State g.row.M.Denot g.row.P.Denot). slice_get (ring_of s.rings c.args.class) 0 ≡ Some c.in_ok-first.first) c.self.view_is (sym c.in_ok-first.ensures.first) in
-    member_place g.N.Name.facts.start g.M.Mapper.span g.M.Mapper.runs g.M.Mapper.refused c.args.self.now c.args.class c.in_ok-first.first c.requires.working c.requires.class (Contains-first (ring_of c.args.self.now.rings c.args.class) c.in_ok-first.first (sym begins))
 
 pub returns-in_err-first-clause-none : goal.returns-in_err-first-clause-none
 returns-in_err-first-clause-none g c =

@@ -1,7 +1,8 @@
-use Rattle.std.proofs.Common.{sym, subst}
+use Rattle.std.proofs.Common.{sym, subst, arith}
 use Rattle.ng_view.specs.declared.view.View.{View}
 use Rattle.ng_view.specs.Fetches.{EmptiesAvail, HasGroup}
 use Rattle.ng_rule.proofs.lock.Fetching.{empties}
+use Rattle.ng_space.proofs.Locked.{word_inside}
 use Rattle.ng_space.proofs.Fetched.{empties_stays}
 use Rattle.ng_space.proofs.space.Space.empty_avail.Goals as goal
 
@@ -14,3 +15,9 @@ invariant_of-seat g c = empties_stays _ _ _ _ _ c.seat.invariant c.and_told-foun
 
 pub returns : goal.returns
 returns g c = (c.and_told-found.result, c.mask_of.ensures, subst (λ (v : View). EmptiesAvail v c.args.meta c.and_told-found.result c.and_told-found.new.seat.me.0) c.seat.view_is c.and_told-found.ensures.told)
+
+pub and_told-found-requires-clause-inside : goal.and_told-found-requires-clause-inside
+and_told-found-requires-clause-inside g c = word_inside _ _ _ _ c.args.meta 24 c.seat.invariant (subst (λ (v : View). HasGroup v c.args.meta) (sym c.seat.view_is) c.requires.live) (omega arith)
+
+pub overflow_add-meta : goal.overflow_add-meta
+overflow_add-meta g c = let inside = word_inside _ _ _ _ c.args.meta 24 c.seat.invariant (subst (λ (v : View). HasGroup v c.args.meta) (sym c.seat.view_is) c.requires.live) (omega arith) in let few = c.args.self.now.range.addressed in record { fits = omega arith }

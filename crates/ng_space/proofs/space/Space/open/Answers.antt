@@ -85,6 +85,7 @@ invariant_of-lock g c =
       none_sent = ap (λ (v : View). v.sent) lock;
       none_taken = ap (λ (v : View). v.taken) lock;
       moving = λ h there. elim (subst (λ (v : View). Among h v.held) lock there) [ ];
+      placed = λ h there. elim (subst (λ (v : View). Among h v.desk.groups) lock there) [ ];
       next = ap (λ (v : View). v.desk.next) lock;
       few = (let few = blank.few in let all = c.requires.hands in let rooms = ap (λ b. length b.rooms) c.blank.view_is in let same = length-rooms c.blank.inside.books.items in omega arith);
       cleared = blank.cleared;

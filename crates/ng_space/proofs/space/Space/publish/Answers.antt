@@ -14,5 +14,5 @@ publish_told-requires-clause-may g c =
     (publishes _ _ _ c.seat.invariant.leads c.seat.invariant.moving c.args.meta c.args.class c.args.mask (subst (λ (v : View). MayPublish v c.args.meta c.args.class c.args.mask) (sym c.seat.view_is) c.requires.built))
 
 pub invariant_of-seat : goal.invariant_of-seat
-invariant_of-seat g c = publishes_stays _ _ _ _ _ c.seat.invariant c.publish_told.ensures.table c.publish_told.ensures.slots c.args.meta c.args.class c.args.mask
+invariant_of-seat g c = publishes_stays _ _ _ _ _ c.seat.invariant c.publish_told.ensures.table c.publish_told.ensures.slots c.args.meta c.args.class c.args.mask c.requires.place
     (subst (λ (v : View). MayPublish v c.args.meta c.args.class c.args.mask) (sym c.seat.view_is) c.requires.built) c.publish_told.ensures.told

@@ -2,6 +2,7 @@ use Rattle.std.proofs.Common.{sym, subst, arith}
 use Rattle.ng_view.specs.declared.view.View.{View}
 use Rattle.ng_view.specs.Fetches.{MayPutBack}
 use Rattle.ng_rule.proofs.lock.Fetching.{pushes_back}
+use Rattle.ng_space.proofs.Locked.{word_inside}
 use Rattle.ng_space.proofs.Fetched.{pushes_stays}
 use Rattle.ng_space.proofs.space.Space.push_parent.Goals as goal
 
@@ -18,3 +19,9 @@ overflow_cast-result g c =
 
 pub invariant_of-seat : goal.invariant_of-seat
 invariant_of-seat g c = pushes_stays _ _ _ _ _ c.seat.invariant c.or_told.ensures.table c.or_told.ensures.slots c.args.meta c.from-bits.result c.or_told.result c.or_told.ensures.told
+
+pub or_told-requires-clause-inside : goal.or_told-requires-clause-inside
+or_told-requires-clause-inside g c = word_inside _ _ _ _ c.args.meta 28 c.seat.invariant (let back = subst (λ (v : View). MayPutBack v c.args.meta c.args.bits) (sym c.seat.view_is) c.requires.slots in record { group = back.group; there = back.there; of_meta = back.of_meta }) (omega arith)
+
+pub overflow_add-meta : goal.overflow_add-meta
+overflow_add-meta g c = let inside = word_inside _ _ _ _ c.args.meta 28 c.seat.invariant (let back = subst (λ (v : View). MayPutBack v c.args.meta c.args.bits) (sym c.seat.view_is) c.requires.slots in record { group = back.group; there = back.there; of_meta = back.of_meta }) (omega arith) in let few = c.args.self.now.range.addressed in record { fits = omega arith }

@@ -1,4 +1,4 @@
-use Rattle.std.proofs.Common.{ap, ◌∙◌, sym, subst, refl}
+use Rattle.std.proofs.Common.{ap, ◌∙◌, sym, subst, refl, inl}
 use Rattle.ng_rule.proofs.geometry.Lists.{find_among}
 use Rattle.ng_view.specs.Lists.{is_at}
 use Rattle.ng_view.specs.Steps.{with_held}
@@ -28,7 +28,7 @@ pub invariant_of-seat : goal.invariant_of-seat
 invariant_of-seat g c =
     let lock = c.pass_slot.ensures.lock in
     lock_stays _ _ _ _ _ _ c.seat.invariant c.pass_slot.ensures.tables.0 (ap (λ me. me.1) lock) (ap (λ me. me.0) lock)
-    (record { leads = refl; parcel = refl; books = refl; sent = refl; taken = refl; next = refl; still = still-without c.args.meta c.args.index c.seat.inside.seat.me.0.held })
+    (record { leads = refl; parcel = refl; books = refl; sent = refl; taken = refl; next = refl; groups = λ g q. inl q; still = still-without c.args.meta c.args.index c.seat.inside.seat.me.0.held })
 
 pub returns-clause-leaves : goal.returns-clause-leaves
 returns-clause-leaves g c =

@@ -1,6 +1,6 @@
-use Rattle.std.proofs.Common.{ap, ◌∙◌}
+use Rattle.std.proofs.Common.{ap, ◌∙◌, subst, inl}
 use Rattle.ng_rule.proofs.hand.Passing.{merge_hand}
-use Rattle.ng_view.specs.Lists.{find}
+use Rattle.ng_view.specs.Lists.{Among, find}
 use Rattle.ng_view.specs.Steps.{pushed}
 use Rattle.ng_view.specs.declared.view.Desk.{Desk}
 use Rattle.ng_space.specs.Callers.{Caller}
@@ -29,6 +29,7 @@ invariant_of-seat g c =
       sent = like.4;
       taken = like.5;
       next = ap (λ (d : Desk). d.next) like.2;
+      groups = λ h q. inl (subst (Among h) (ap (λ (d : Desk). d.groups) like.2) q);
       still = still-slot c.seat.inside.seat.me.0 c.hand.inside.seat.me.0 c.slot.inside.meta c.slot.inside.index (token_free _ _ _ _ _ c.requires.slot (ap (λ (hand : Caller). hand.view) c.hand.view_is) (ap (λ (slot : Token). slot.meta) c.slot.view_is) (ap (λ (slot : Token). slot.index) c.slot.view_is));
     })
 

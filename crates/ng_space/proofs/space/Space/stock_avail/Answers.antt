@@ -3,6 +3,7 @@ use Rattle.ng_view.specs.Lists.{Among}
 use Rattle.ng_view.specs.declared.view.View.{View}
 use Rattle.ng_view.specs.Fetches.{MayPutBack, StocksAvail}
 use Rattle.ng_rule.proofs.lock.Fetching.{stocks}
+use Rattle.ng_space.proofs.Locked.{word_inside}
 use Rattle.ng_space.proofs.Fetched.{stocks_stays}
 use Rattle.ng_space.proofs.space.Space.stock_avail.Goals as goal
 
@@ -17,3 +18,9 @@ invariant_of-seat g c = stocks_stays _ _ _ _ _ c.seat.invariant c.or_told.ensure
 
 pub returns : goal.returns
 returns g c = (c.or_told.result, subst (λ n. StocksAvail c.args.seat.now c.args.meta n c.or_told.result c.or_told.new.seat.me.0) c.from-bits.ensures (subst (λ (v : View). StocksAvail v c.args.meta c.from-bits.result c.or_told.result c.or_told.new.seat.me.0) c.seat.view_is c.or_told.ensures.told))
+
+pub or_told-requires-clause-inside : goal.or_told-requires-clause-inside
+or_told-requires-clause-inside g c = word_inside _ _ _ _ c.args.meta 24 c.seat.invariant (let back = subst (λ (v : View). MayPutBack v c.args.meta c.args.bits) (sym c.seat.view_is) c.requires.slots in record { group = back.group; there = back.there; of_meta = back.of_meta }) (omega arith)
+
+pub overflow_add-meta : goal.overflow_add-meta
+overflow_add-meta g c = let inside = word_inside _ _ _ _ c.args.meta 24 c.seat.invariant (let back = subst (λ (v : View). MayPutBack v c.args.meta c.args.bits) (sym c.seat.view_is) c.requires.slots in record { group = back.group; there = back.there; of_meta = back.of_meta }) (omega arith) in let few = c.args.self.now.range.addressed in record { fits = omega arith }

@@ -1,0 +1,6 @@
+use Rattle.std.specs.Prelude.{◌≡◌}
+use Rattle.ng_view.specs.LockSteps.{active_set}
+use Rattle.ng_space.proofs.space.Space.set_active.Given as goal
+
+abbrev pub ghosts-store_told : goal.ghosts-store_told
+ghosts-store_told g a = record { told = λ before found after. after ≡ active_set before a._index found }
