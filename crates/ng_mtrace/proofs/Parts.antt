@@ -1,6 +1,6 @@
 -- Parts of a text, cut off one by one.
 use Rattle.std.specs.Prelude.{position}
-use Rattle.std.proofs.Common.{◌≡◌, ℕ, suc, ◌+◌, ◌-◌, ◌<◌, ◌≤◌, ◌==◌, Bool, true, false, List, [], ◌∷◌, ◌++◌, length, take, drop, get_or, Some, None, refl, sym, ap, ◌∙◌, arith, ltb, ⊎_elim}
+use Rattle.std.proofs.Common.{◌≡◌, ℕ, suc, ◌+◌, ◌-◌, ◌<◌, ◌≤◌, ◌==◌, Bool, true, false, List, [], ◌∷◌, ◌++◌, length, take, drop, get_or, Option, Some, None, refl, sym, ap, ◌∙◌, arith, ltb, ⊎_elim}
 use Rattle.std.specs.List.{slice_split, position_or_len, join_with_byte}
 use Rattle.std.proofs.lemmas.Bool.{cases_Bool, eqb-true}
 use Rattle.std.proofs.lemmas.Bool.Decides.{nat_tests}
@@ -9,7 +9,8 @@ use Rattle.std.proofs.Math.Seq.{drop-cons}
 use Rattle.std.proofs.lemmas.List.Elements.{All-from_get_or}
 use Rattle.std.proofs.lemmas.List.Quantifiers.{position-Some}
 use Rattle.std.proofs.lemmas.List.Splits.{slice_split_at, slice_split_none, length-slice_split, join_with_byte-slice_split}
-use Rattle.std.proofs.lemmas.List.Sums.{fails_before_first}
+use Rattle.std.proofs.lemmas.List.Sums.{fails_before_first, position_or_len_is}
+use Rattle.memchr.specs.Find.{Nowhere, Passes, IsFirstByte, is_byte}
 use Rattle.ng_mtrace.specs.Text.{parts_at, IsWithout}
 
 some_is_not_none : (n : ℕ) → Some n ≡ None → ⊥
@@ -83,3 +84,24 @@ parts_at-nil cut text empty = rw (nil_from_length text empty) refl
 pub parts_at-some_part : (cut : ℕ) (text : List ℕ) → 0 < length (parts_at cut text)
 unfolding parts_at
 parts_at-some_part cut text = omega (arith, length-slice_split (λ byte. byte == cut) text)
+
+-- a byte that fails at each place of these
+misses : (cut : ℕ) (text : List ℕ) (end : ℕ) → Nowhere (Passes (is_byte cut) text) 0 end → (k : ℕ) → k < end → (get_or text k 0 == cut) ≡ false
+misses cut text end nowhere k below =
+    ⊎_elim
+    (λ (yes : (get_or text k 0 == cut) ≡ true). absurd (nowhere k (omega arith) below yes))
+    (λ (no : (get_or text k 0 == cut) ≡ false). no)
+    (cases_Bool (get_or text k 0 == cut))
+
+-- a search for the first byte gives its position
+pub first_byte-position : (cut : ℕ) (text : List ℕ) (found : Option ℕ) → IsFirstByte (is_byte cut) text found → found ≡ position (λ byte. byte == cut) text
+first_byte-position cut text None nowhere =
+    let last : position_or_len (λ byte. byte == cut) text ≡ length text =
+    position_or_len_is (λ byte. byte == cut) text (length text) 0 (omega arith) (misses cut text (length text) nowhere) (λ within. absurd (omega arith)) in
+    let out : ltb (position_or_len (λ byte. byte == cut) text) (length text) ≡ false = grind (arith, nat_tests) in
+    rw out refl
+first_byte-position cut text (Some at) first =
+    let here : position_or_len (λ byte. byte == cut) text ≡ at =
+    position_or_len_is (λ byte. byte == cut) text at 0 (omega (arith, first.0.high)) (misses cut text at first.0.before) (λ within. first.1) in
+    let inside : ltb (position_or_len (λ byte. byte == cut) text) (length text) ≡ true = grind (arith, nat_tests, first.0.high) in
+    rw inside (ap Some (sym here))

@@ -2,6 +2,8 @@ ghost use Rattle.std.specs.Prelude.{◌≡◌, ◌<◌, ◌∷◌, [], ◌++◌,
 ghost use Rattle.std.specs.Str.{bytes_eq};
 ghost use Rattle.ng_mtrace.specs.Text.{parts_at, IsWithout};
 
+use memchr::memchr;
+
 /// What stands before the first byte of this value, and what stands behind it.
 pub fn cut_at(text: &[u8], cut: u8) -> Option<(&[u8], &[u8])>
     ensures none { IfNone result (parts_at cut text.now ≡ text.now ∷ []) }
@@ -24,7 +26,7 @@ pub fn cut_at(text: &[u8], cut: u8) -> Option<(&[u8], &[u8])>
 fn place_of(text: &[u8], wanted: u8) -> Option<usize>
     ensures { result ≡ position (λ byte. byte == wanted) text.now }
 {
-    text.iter().position(|byte| *byte == wanted)
+    memchr(wanted, text)
 }
 
 /// Is a text this word?
