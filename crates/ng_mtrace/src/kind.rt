@@ -1,5 +1,6 @@
-ghost use Rattle.std.specs.Prelude.{◌≡◌, ◌∷◌, [], ℕ, List};
-ghost use Rattle.ng_mtrace.specs.Kinds.{kind_of, kind_from, short_form, long_form};
+ghost use Rattle.std.specs.Prelude.{◌≡◌, ◌∷◌, ℕ, List, codes};
+ghost use Rattle.ng_mtrace.specs.Kinds.{kind_of, kind_from, long_form};
+ghost use Rattle.ng_mtrace.specs.Tokens.{last_tokens};
 
 use crate::number::{ptr, size};
 use crate::text::is_word;
@@ -38,55 +39,66 @@ pub fn read_kind(line: &[u8]) -> Kind
     let Some((before_second, second)) = last_token(before_last) else {
         return Kind::Bad;
     };
-    match last_token(before_second) {
-        None => kind_of_two(second, last),
-        Some((_, third)) => kind_of_more(third, second, last),
-    }
+    kind_behind(before_second, second, last)
 }
 
-/// The kind of a line of two tokens.
-fn kind_of_two(second: &[u8], last: &[u8]) -> Kind
-    ensures { result ≡ kind_from (last.now ∷ second.now ∷ []) }
+/// The kind of a line that ends with these two tokens. What stands before them is looked at only
+/// where they don't decide.
+fn kind_behind(before: &[u8], second: &[u8], last: &[u8]) -> Kind
+    ensures { result ≡ kind_from (last.now ∷ second.now ∷ last_tokens before.now) }
 {
-    if is_word(second, b"=") && is_word(last, b"Start") {
-        return Kind::Start;
+    if is_word(second, b"-") {
+        return ended(last);
     }
-    if is_word(second, b"=") && is_word(last, b"End") {
-        return Kind::Stop;
+    if is_word(second, b"<") {
+        return old(last);
     }
-    match read_short(second, last) {
-        Some(kind) => kind,
-        None => Kind::Bad,
+    if is_word(second, b"=") {
+        return mark(before, last);
     }
-}
-
-/// The kind of a line of three tokens or more.
-fn kind_of_more(third: &[u8], second: &[u8], last: &[u8]) -> Kind
-    ensures { (before : List (List ℕ))
-        → result ≡ kind_from (last.now ∷ second.now ∷ third.now ∷ before) }
-{
-    if let Some(kind) = read_short(second, last) {
-        return kind;
-    }
+    let Some((_, third)) = last_token(before) else {
+        return Kind::Bad;
+    };
     match read_long(third, second, last) {
         Some(kind) => kind,
         None => Kind::Bad,
     }
 }
 
-/// A sign and a pointer.
-fn read_short(sign: &[u8], last: &[u8]) -> Option<Kind>
-    ensures { result ≡ short_form sign.now last.now }
+/// The kind of a line that ends with `-` and this token.
+fn ended(last: &[u8]) -> Kind
+    ensures { (before : List (List ℕ)) → result ≡ kind_from (last.now ∷ codes "-" ∷ before) }
 {
-    if is_word(sign, b"-") {
-        let name = ptr(last)?;
-        return Some(Kind::End { name });
+    match ptr(last) {
+        Some(name) => Kind::End { name },
+        None => Kind::Bad,
     }
-    if is_word(sign, b"<") {
-        let name = ptr(last)?;
-        return Some(Kind::Old { name });
+}
+
+/// The kind of a line that ends with `<` and this token.
+fn old(last: &[u8]) -> Kind
+    ensures { (before : List (List ℕ)) → result ≡ kind_from (last.now ∷ codes "<" ∷ before) }
+{
+    match ptr(last) {
+        Some(name) => Kind::Old { name },
+        None => Kind::Bad,
     }
-    None
+}
+
+/// The kind of a line that ends with `=` and this token.
+fn mark(before: &[u8], last: &[u8]) -> Kind
+    ensures { result ≡ kind_from (last.now ∷ codes "=" ∷ last_tokens before.now) }
+{
+    if last_token(before).is_some() {
+        return Kind::Bad;
+    }
+    if is_word(last, b"Start") {
+        return Kind::Start;
+    }
+    if is_word(last, b"End") {
+        return Kind::Stop;
+    }
+    Kind::Bad
 }
 
 /// A sign, a pointer and a size.
