@@ -1,14 +1,22 @@
 -- Hexadecimal digits, read one by one.
 use Rattle.std.proofs.Common.{◌≡◌, ℕ, ◌+◌, ◌*◌, ◌^◌, ◌<◌, ◌≤◌, ◌⊎◌, List, length, take, get_or, Bool, true, false, Option, Some, None, refl, ◌∙◌, arith, ◌&&◌, leb, eqb, ⊎_elim, cond}
+use Rattle.std.specs.Prelude.{min}
 use Rattle.std.specs.List.{list_all}
 use Rattle.std.specs.Char.{is_digit, digit_value}
 use Rattle.std.specs.Str.Parse.{digits_value}
+use Rattle.std.proofs.lemmas.Bool.{agree_below_at, eqb-true}
 use Rattle.std.proofs.lemmas.Bool.Decides.{nat_tests}
 use Rattle.std.proofs.lemmas.List.{take_all}
 use Rattle.std.proofs.lemmas.List.Folds.{list_all_more, list_all_at}
 use Rattle.std.proofs.Math.Nat.{pow-le-pow_right, mul_comm}
 use Rattle.std.proofs.lemmas.Nat.{pow-add}
 use Rattle.ng_mtrace.specs.Numbers.{number_of}
+use Rattle.ng_mtrace.specs.declared.number.TheConstants.{DIGITS}
+
+-- what the table of digits has for a byte
+pub digits_at : (byte place : ℕ) → byte < 256 → place ≡ byte → get_or DIGITS place 0 ≡ min (digit_value byte) 16
+digits_at byte place small same =
+    rw same (eqb-true (get_or DIGITS byte 0) (min (digit_value byte) 16) (agree_below_at (λ b. eqb (get_or DIGITS b 0) (min (digit_value b) 16)) (λ b. true) 256 byte refl small))
 
 second_off : (a b c : Bool) → b ≡ false → (a && b && c) ≡ false
 second_off true b c off = rw off refl
