@@ -1,6 +1,7 @@
 -- Parts of a text, cut off one by one.
 use Rattle.std.specs.Prelude.{position}
 use Rattle.std.proofs.Common.{◌≡◌, ℕ, suc, ◌+◌, ◌-◌, ◌<◌, ◌≤◌, ◌==◌, Bool, true, false, List, [], ◌∷◌, ◌++◌, length, take, drop, get_or, Option, Some, None, refl, sym, ap, ◌∙◌, arith, ltb, ⊎_elim}
+use Rattle.std.specs.Str.{bytes_eq}
 use Rattle.std.specs.List.{slice_split, position_or_len, join_with_byte}
 use Rattle.std.proofs.lemmas.Bool.{cases_Bool, eqb-true}
 use Rattle.std.proofs.lemmas.Bool.Decides.{nat_tests}
@@ -9,6 +10,7 @@ use Rattle.std.proofs.Math.Seq.{drop-cons}
 use Rattle.std.proofs.lemmas.List.Elements.{All-from_get_or}
 use Rattle.std.proofs.lemmas.List.Quantifiers.{position-Some}
 use Rattle.std.proofs.lemmas.List.Splits.{slice_split_at, slice_split_none, length-slice_split, join_with_byte-slice_split}
+use Rattle.std.proofs.lemmas.Slice.Eq.{bytes_eq-Decides}
 use Rattle.std.proofs.lemmas.List.Sums.{fails_before_first, position_or_len_is}
 use Rattle.memchr.specs.Find.{Nowhere, Passes, IsFirstByte, is_byte}
 use Rattle.ng_mtrace.specs.Text.{parts_at, IsWithout}
@@ -105,3 +107,10 @@ first_byte-position cut text (Some at) first =
     position_or_len_is (λ byte. byte == cut) text at 0 (omega (arith, first.0.high)) (misses cut text at first.0.before) (λ within. first.1) in
     let inside : ltb (position_or_len (λ byte. byte == cut) text) (length text) ≡ true = grind (arith, nat_tests, first.0.high) in
     rw inside (ap Some (sym here))
+
+-- a text that ends with a word
+pub suffix_cut : (text word before : List ℕ) → bytes_eq (drop (length text - length word) text) word ≡ true → before ≡ take (length text - length word) text → text ≡ before ++ word
+suffix_cut text word before same is =
+    let at : ℕ = length text - length word in
+    let tail : drop at text ≡ word = (bytes_eq-Decides (drop at text) word).0 same in
+    rw is (sym (take-append-drop at text) ∙ ap (λ (end : List ℕ). take at text ++ end) tail)

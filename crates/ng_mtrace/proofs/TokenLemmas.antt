@@ -114,3 +114,8 @@ last_token_is line start end some within filled edge same =
 pub no_token : (line : List ℕ) (end : ℕ) → end ≡ 0 → tokens_of (take end line) ≡ tokens_of line → last_tokens line ≡ []
 unfolding last_tokens
 no_token line end none same = rw (← same) (rw none (nothing))
+
+-- what a token at the end of a line is, behind a blank
+pub last_tokens-behind : (xs : List ℕ) (y : ℕ) (t : List ℕ) → is_blank y ≡ true → 0 < length t → All (λ x. is_blank x ≡ false) t → last_tokens (xs ++ y ∷ t) ≡ t ∷ last_tokens xs
+unfolding last_tokens
+last_tokens-behind xs y t blank some filled = rw (tokens_of-behind xs y t blank some filled) (reverse-append (tokens_of xs) (t ∷ []))

@@ -9,3 +9,4 @@ pub mod Faults
 pub mod Reads
 pub mod OpenSections
 pub mod PartRead
+pub mod Plain

@@ -3,6 +3,7 @@ ghost use Rattle.ng_mtrace.specs.Kinds.{kind_of, kind_from, long_form};
 ghost use Rattle.ng_mtrace.specs.Tokens.{last_tokens};
 
 use crate::number::{ptr, size};
+use crate::plain::plain_kind;
 use crate::text::is_word;
 use crate::token::last_token;
 
@@ -31,6 +32,16 @@ pub enum Kind {
 
 /// The kind of a line.
 pub fn read_kind(line: &[u8]) -> Kind
+    ensures { result ≡ kind_of line.now }
+{
+    match plain_kind(line) {
+        Some(kind) => kind,
+        None => any_kind(line),
+    }
+}
+
+/// The kind of a line, by its last tokens.
+fn any_kind(line: &[u8]) -> Kind
     ensures { result ≡ kind_of line.now }
 {
     let Some((before_last, last)) = last_token(line) else {

@@ -11,6 +11,7 @@ mod logs;
 mod number;
 mod output;
 mod part_read;
+mod plain;
 mod sections;
 mod stream;
 mod text;

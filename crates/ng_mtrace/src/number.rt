@@ -1,8 +1,9 @@
 ghost use Rattle.std.specs.Prelude.{◌≡◌, ◌<◌, ◌≤◌, IfSome, MatchOption};
 ghost use Rattle.std.specs.Char.{digit_value};
 ghost use Rattle.ng_mtrace.specs.Numbers.{number_of, hex_of, ptr_of, size_of};
+ghost use Rattle.ng_mtrace.specs.Plain.{AreDigitsFrom, EndsInNumber};
 
-use crate::text::is_word;
+use crate::text::{before_word, is_word};
 
 /// The value of each byte as a hexadecimal digit, and 16 where it is none.
 const DIGITS: [u8; 256] = [
@@ -73,4 +74,36 @@ pub fn size(token: &[u8]) -> Option<u64>
         return Some(0);
     }
     hex(token)
+}
+
+/// What stands before the `0x` of a number at the end of a text, and the number.
+pub fn last_number(text: &[u8]) -> Option<(&[u8], u64)>
+    ensures { IfSome result (λ (before, value). EndsInNumber text.now before.now value) }
+{
+    let (start, value) = last_digits(text);
+    if start == text.len() {
+        return None;
+    }
+    let before = before_word(&text[..start], b"0x")?;
+    Some((before, value))
+}
+
+/// Where the hexadecimal digits at the end of a text begin, or the last 16 of them, and their
+/// value.
+fn last_digits(text: &[u8]) -> (usize, u64)
+    ensures { AreDigitsFrom result.0 text.now result.1 }
+{
+    let mut start = text.len();
+    let mut value: u64 = 0;
+    let mut scale: u64 = 1;
+    let low = start.saturating_sub(16);
+    while low < start {
+        let Some(d) = digit(text[start - 1]) else {
+            return (start, value);
+        };
+        value += u64::from(d) * scale;
+        scale = scale.wrapping_mul(16);
+        start -= 1;
+    }
+    (start, value)
 }

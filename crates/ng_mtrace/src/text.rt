@@ -36,3 +36,10 @@ pub fn is_word(text: &[u8], word: &[u8]) -> bool
 {
     text == word
 }
+
+/// What stands before this word at the end of a text.
+pub fn before_word<'a>(text: &'a [u8], word: &[u8]) -> Option<&'a [u8]>
+    ensures { IfSome result (λ before. text.now ≡ before.now ++ word.now) }
+{
+    text.strip_suffix(word)
+}

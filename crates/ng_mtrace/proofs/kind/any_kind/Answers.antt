@@ -1,7 +1,7 @@
 use Rattle.std.proofs.Common.{sym, ◌∙◌, []}
 use Rattle.ng_mtrace.specs.Tokens.{last_tokens}
 use Rattle.ng_mtrace.proofs.LineForms.{kind_of-from, one_token, two_tokens}
-use Rattle.ng_mtrace.proofs.kind.read_kind.Goals as goal
+use Rattle.ng_mtrace.proofs.kind.any_kind.Goals as goal
 
 pub returns-in_default : goal.returns-in_default
 returns-in_default c = sym (kind_of-from c.args.line.now [] c.in_default.ensures.none)
