@@ -91,6 +91,7 @@ module _ (start : Start) (span : Span) (live : List mapper.Run) (refused : Refus
       nested = works.stands.nested;
       carried = works.stands.carried;
     };
+    followed = works.followed;
     counted = works.counted;
     leads = works.leads;
     bookless = works.bookless;

@@ -32,6 +32,7 @@ use Rattle.ng_group.specs.Serving.{with_search}
 use Rattle.ng_group.specs.States.{IsResting, Resting, State, ledger_of}
 use Rattle.ng_group.specs.Steps.{Came}
 use Rattle.ng_group.proofs.MappingLemmas.{with_seat}
+use Rattle.ng_group.proofs.WordLemmas.{followed_same}
 use Rattle.ng_group.proofs.WorkingLemmas.{searched, searched_hand}
 
 -- ---- the first group of a ring
@@ -137,7 +138,8 @@ module _ {v : View} {m avail freed : ℕ} {u w : View} (reads : ReadsMasks v m a
 pub rests_read : {start : Start} {span : Span} {live : List mapper.Run} {refused : Refusals} {l : Ledger} {m avail freed : ℕ} {u w : View}
     → ReadsMasks l.seat m avail freed u w → IsResting start span live refused l → IsResting start span live refused (with_seat l w)
 rests_read {start = start} {span = span} {live = live} {refused = refused} {l = l} {m = m} {avail = avail} {w = w} reads rests = record {
-  working = searched start span live refused l w l.rings rests.working (masks_search reads) refl ringed;
+  working = searched start span live refused l w l.rings rests.working (masks_search reads) refl ringed
+      (followed_same rests.working.followed (ap (λ (x : View). x.desk.active) (masks_view reads)));
   still = ap (λ (x : View). x.held) (masks_view reads) ∙ rests.still;
   answered = ap (λ (x : View). x.excuses) (masks_view reads) ∙ rests.answered;
   at_rest = λ n hand. rests.at_rest n ((searched_hand l w l.rings (masks_search reads)).none_more n hand);

@@ -111,6 +111,7 @@ module _ (start : Start) (span : Span) (live : List mapper.Run) (refused : Refus
         nested = nested_less l.seat.desk.groups l.seat.desk.layout.nests meta works.stands.nested;
         carried = carried_less l.seat.desk.layout.nests l.parents meta works.stands.carried;
       };
+      followed = works.followed;
       counted = works.counted;
       leads = works.leads;
       bookless = works.bookless;
@@ -174,6 +175,7 @@ module _ (start : Start) (span : Span) (live : List mapper.Run) (refused : Refus
                 nested = nested_less l.seat.desk.groups l.seat.desk.layout.nests meta works.stands.nested;
                 carried = carried_less l.seat.desk.layout.nests l.parents meta works.stands.carried;
               };
+              followed = works.followed;
               counted = omega (arith, works.counted, calm.later);
               leads = works.leads;
               bookless = works.bookless;

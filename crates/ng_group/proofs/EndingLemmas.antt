@@ -1,5 +1,5 @@
 -- A group whose slots are all in the seat leaves its ring, and the next of the ring becomes its first.
-use Rattle.std.proofs.Common.{◌≡◌, ◌≢◌, ℕ, ◌+◌, ◌<◌, eqb, cond, Bool, true, false, true≢false, List, [], ◌∷◌, ◌++◌, Contains, IfNone, IfSome, None, Option, Some, drop, refl, sym, ap, ◌∙◌, subst, inl, inr, arith}
+use Rattle.std.proofs.Common.{◌≡◌, ◌≢◌, ℕ, ◌+◌, ◌<◌, eqb, cond, Bool, true, false, true≢false, List, [], ◌∷◌, ◌++◌, Contains, IfNone, IfSome, None, Option, Some, drop, set, refl, sym, ap, ◌∙◌, subst, inl, inr, arith}
 use Rattle.std.specs.List.{slice_get}
 use Rattle.std.specs.Option.{option_eq}
 use Rattle.std.proofs.lemmas.Bool.{eq-eqb, eqb-false, eqb-true}
@@ -7,12 +7,12 @@ use Rattle.ng_meta.specs.Place.{IsMetaPlace}
 use Rattle.ng_mapper.specs.Mapping.{Span}
 use Rattle.ng_mapper.specs.Runs as mapper
 use Rattle.ng_mapper.specs.declared.refusals.Refusals.{Refusals}
-use Rattle.ng_lists.specs.Rings.{IsListed, RingTable, ring_of}
+use Rattle.ng_lists.specs.Rings.{IsListed, RingTable, ring_of, without}
 use Rattle.ng_view.specs.Fetches.{HasGroup}
 use Rattle.ng_view.specs.Masks.{TellsFreed}
 use Rattle.ng_view.specs.Notes.{NotesRing}
 use Rattle.ng_view.specs.Lists.{Among, find}
-use Rattle.ng_view.specs.LockSteps.{has_number, others, outside, read_bits, ring_noted, ring_read}
+use Rattle.ng_view.specs.LockSteps.{active_set, has_number, others, outside, read_bits, ring_noted, ring_read}
 use Rattle.ng_view.specs.Steps.{read}
 use Rattle.ng_view.specs.declared.view.Group.{Group}
 use Rattle.ng_view.specs.declared.view.Held.{Held}
@@ -30,7 +30,8 @@ use Rattle.ng_ledger.proofs.TableLemmas.{in_listed, one_ring}
 use Rattle.ng_group.specs.Ending.{LeavesRing, Unlists}
 use Rattle.ng_group.specs.Returning.{HasWhole}
 use Rattle.ng_group.specs.Serving.{OnlyRing, with_search}
-use Rattle.ng_group.specs.States.{IsWorking, State}
+use Rattle.ng_group.specs.States.{AreFollowed, IsWorking, State, first_of, with_active}
+use Rattle.ng_group.proofs.WordLemmas.{followed_ring, followed_same}
 use Rattle.ng_group.proofs.WorkingLemmas.{searched}
 
 -- ---- it is no more noted as listed
@@ -60,12 +61,15 @@ noted_unlisted v w m n whole notes =
     let tells : TellsFreed v whole.group n = notes.tells whole.group whole.there whole.of_meta in
     unlisted_is v m n w notes.view (tells.zero (subst (λ k. Among k v.desk.zero_freed) (sym whole.of_meta) whole.no_freed)) whole.no_avail
 
-module _ (v w : View) (m : ℕ) (is : w ≡ unlisted v m) where
-  unlisted_search : w ≡ with_search v w
-  unlisted_search = subst (λ (x : View). x ≡ with_search v x) (sym is) refl
+module _ (v w u : View) (m class word : ℕ) (is : w ≡ unlisted v m) (sets : u ≡ active_set w class word) where
+  unlisted_set : u ≡ active_set (unlisted v m) class word
+  unlisted_set = sets ∙ ap (λ (x : View). active_set x class word) is
 
-  pub unlisted_whole : HasWhole v m → HasWhole w m
-  unlisted_whole whole = subst (λ (x : View). HasWhole x m) (sym is) (record {
+  unlisted_search : u ≡ with_search v u
+  unlisted_search = subst (λ (x : View). x ≡ with_search v x) (sym unlisted_set) refl
+
+  pub unlisted_whole : HasWhole v m → HasWhole u m
+  unlisted_whole whole = subst (λ (x : View). HasWhole x m) (sym unlisted_set) (record {
     group = whole.group;
     there = whole.there;
     of_meta = whole.of_meta;
@@ -75,17 +79,20 @@ module _ (v w : View) (m : ℕ) (is : w ≡ unlisted v m) where
     no_freed = inl refl;
   })
 
-  pub unlisted_works : (start : Start) (span : Span) (live : List mapper.Run) (refused : Refusals) (l : Ledger) (t : RingTable) (class : ℕ)
+  pub unlisted_works : (start : Start) (span : Span) (live : List mapper.Run) (refused : Refusals) (l : Ledger) (t : RingTable)
       → l.seat ≡ v → IsWorking start span live refused l → IsTable l.rings → IsIn l.rings class m → t ≡ left l.rings class m
-      → IsWorking start span live refused (record l { seat = w; rings = t })
-  unlisted_works start span live refused l t class seat works table in' turned =
-      searched start span live refused l w t works
-      (subst (λ (x : View). w ≡ with_search x w) (sym seat) unlisted_search)
+      → word ≡ first_of (ring_of t class) → IsWorking start span live refused (record l { seat = u; rings = t })
+  unlisted_works start span live refused l t seat works table in' turned first =
+      searched start span live refused l u t works
+      (subst (λ (x : View). u ≡ with_search x u) (sym seat) unlisted_search)
       (ap (λ (x : RingTable). x.pages) turned)
-      (subst (λ (x : View). AreRinged l.seat.desk.groups x.desk.listed x.desk.zero_avail t) (sym is)
+      (subst (λ (x : View). AreRinged l.seat.desk.groups x.desk.listed x.desk.zero_avail t) (sym unlisted_set)
       (subst (λ (x : View). AreRinged l.seat.desk.groups (others m x.desk.listed) x.desk.zero_avail t) seat
       (subst (AreRinged l.seat.desk.groups (others m l.seat.desk.listed) l.seat.desk.zero_avail) (sym turned)
       (leave l.seat.desk.groups l.seat.desk.listed l.seat.desk.zero_avail l.rings class m table in' works.stands.ringed))))
+      (subst (λ (ws : List ℕ). AreFollowed ws l.seat.desk.counter t l.counter)
+      (ap (λ (k : ℕ). set v.desk.active class k) (sym first) ∙ ap (λ (x : View). x.desk.active) (sym unlisted_set))
+      (followed_ring works.followed v.desk.active t class (without m (ring_of l.rings class)) (ap (λ (x : View). x.desk.active) (sym seat)) turned))
 
 -- and is in no ring
 pub left_out : (before after : RingTable) (class m : ℕ) → IsTable before → IsIn before class m → after ≡ left before class m → ¬ IsListed after m
@@ -124,8 +131,9 @@ module _ (v w : View) (next : ℕ) (stocks : StocksFreed v next w) where
   stocked_search =
       let view : w ≡ with_masks v w stocks.changes.words = stocks.changes.view in
       view
-      ∙ ap (λ (r : List (ℕ × ℕ)). record (with_search v w) { readings = r; desk = record (with_search v w).desk { listed = v.desk.listed } }) (ap (λ (x : View). x.readings) (sym view))
-      ∙ ap (λ (ls : List ℕ). record (with_search v w) { desk = record (with_search v w).desk { listed = ls } }) (ap (λ (x : View). x.desk.listed) (sym view))
+      ∙ ap (λ (r : List (ℕ × ℕ)). record (with_search v w) { readings = r; desk = record (with_search v w).desk { listed = v.desk.listed; active = v.desk.active } }) (ap (λ (x : View). x.readings) (sym view))
+      ∙ ap (λ (ls : List ℕ). record (with_search v w) { desk = record (with_search v w).desk { listed = ls; active = v.desk.active } }) (ap (λ (x : View). x.desk.listed) (sym view))
+      ∙ ap (λ (ws : List ℕ). record (with_search v w) { desk = record (with_search v w).desk { active = ws } }) (ap (λ (x : View). x.desk.active) (sym view))
 
   stocked_groups : w.desk.groups ≡ v.desk.groups
   stocked_groups = ap (λ (x : View). x.desk.groups) stocks.changes.view
@@ -151,6 +159,7 @@ module _ (v w : View) (next : ℕ) (stocks : StocksFreed v next w) where
       (subst (λ (ls : List ℕ). AreRinged l.seat.desk.groups ls w.desk.zero_avail l.rings) (ap (λ (x : View). x.desk.listed) seat ∙ sym (ap (λ (x : View). x.desk.listed) stocks.changes.view))
       (stock_alone l.seat.desk.groups l.seat.desk.listed l.seat.desk.zero_avail w.desk.zero_avail l.rings class next table first
       (λ n apart there. stocks.changes.zero_avail n apart (subst (λ (x : View). Among n x.desk.zero_avail) seat there)) works.stands.ringed))
+      (followed_same works.followed (ap (λ (x : View). x.desk.active) stocks.changes.view ∙ ap (λ (x : View). x.desk.active) (sym seat)))
 
   pub stocked_only : {M P : Type 0} (class : ℕ) (s : State M P)
       → s.seat ≡ v → IsTable s.rings → slice_get (ring_of s.rings class) 0 ≡ Some next
@@ -172,15 +181,16 @@ not_first t class m next absent first same = absent (subst (IsListed t) (sym sam
 -- ---- each step is told
 
 module _ {M P : Type 0} {s now : State M P} (class meta : ℕ) (same : s ≡ now) where
-  pub unlists_now : (n : ℕ) (w : View) (t : RingTable) → IsIn now.rings class meta → NotesRing s.seat meta false n w → t ≡ left s.rings class meta
-      → Unlists class meta now (record s { seat = w; rings = t })
-  unlists_now n w t member notes turned = record {
+  pub unlists_now : (n : ℕ) (w u : View) (t : RingTable) → IsIn now.rings class meta → NotesRing s.seat meta false n w → t ≡ left s.rings class meta
+      → u ≡ active_set w class (first_of (ring_of t class)) → Unlists class meta now (record s { seat = u; rings = t })
+  unlists_now n w u t member notes turned sets = record {
     member = member;
     mask = n;
     state = subst
-        (λ (x : State M P). record s { seat = w; rings = t } ≡ record x { seat = read (ring_read x.seat meta false n) (meta + 28) n; rings = left x.rings class meta }) same
-        (ap (λ (v : View). record s { seat = v; rings = t }) notes.view
-        ∙ ap (λ (r : RingTable). record s { seat = read (ring_read s.seat meta false n) (meta + 28) n; rings = r }) turned);
+        (λ (x : State M P). record s { seat = u; rings = t } ≡ with_active (record x { seat = read (ring_read x.seat meta false n) (meta + 28) n; rings = left x.rings class meta }) class) same
+        (ap (λ (v : View). record s { seat = v; rings = t }) sets
+        ∙ ap (λ (v : View). with_active (record s { seat = v; rings = t }) class) notes.view
+        ∙ ap (λ (r : RingTable). with_active (record s { seat = read (ring_read s.seat meta false n) (meta + 28) n; rings = r }) class) turned);
   }
 
   module _ (before : State M P) (unlists : Unlists class meta before now) where

@@ -10,7 +10,7 @@ use Rattle.ng_mapper.specs.declared.refusals.Refusals.{Refusals}
 use Rattle.ng_lists.specs.Rings.{RingTable, ring_of, without}
 use Rattle.ng_lists.proofs.MemberLemmas.{Contains-first}
 use Rattle.ng_view.specs.Lists.{Among}
-use Rattle.ng_view.specs.LockSteps.{others, read_bits}
+use Rattle.ng_view.specs.LockSteps.{active_set, others, read_bits}
 use Rattle.ng_view.specs.declared.view.Start.{Start}
 use Rattle.ng_view.specs.declared.view.View.{View}
 use Rattle.ng_view.specs.Notes.{NotesRing}
@@ -23,9 +23,10 @@ use Rattle.ng_ledger.proofs.RingLemmas.{leave}
 use Rattle.ng_ledger.proofs.StepLemmas.{left_changes, left_first}
 use Rattle.ng_ledger.proofs.TableLemmas.{first_is}
 use Rattle.ng_group.specs.Serving.{OnlyRing, StartsWalk}
-use Rattle.ng_group.specs.States.{State, Working}
+use Rattle.ng_group.specs.States.{State, Working, first_of}
+use Rattle.ng_group.proofs.WordLemmas.{followed_ring, followed_same, set_came, set_search}
 use Rattle.ng_group.proofs.WorkingLemmas.{only_works}
-use Rattle.ng_group.proofs.ServingLemmas.{live_at, noted_avail, noted_came, noted_held, noted_leaves, noted_search, noted_stays, only_here, only_seat}
+use Rattle.ng_group.proofs.ServingLemmas.{live_at, noted_active, noted_avail, noted_came, noted_held, noted_leaves, noted_search, noted_stays, only_here, only_seat}
 
 -- ---- the first group stays in its ring, or leaves it
 pub record Walks {M P : Type 0} (start : Start) (span : M → Span) (runs : M → List mapper.Run) (refused : M → Refusals) (class first : ℕ) (before after : State M P) : Type 0 where
@@ -68,7 +69,8 @@ first_stays {M} {P} start span runs refused s now class first n w same known beg
 
     stays : IsBare s.seat.desk.zero_avail s.rings class → Working start span runs refused s → Walks start span runs refused class first s (record s { seat = w })
     stays bare' works' = record {
-      working = only_works start span runs refused class s (record s { seat = w }) only refl (ringed works'.stands.ringed) works';
+      working = only_works start span runs refused class s (record s { seat = w }) only refl (ringed works'.stands.ringed) works'
+          (followed_same works'.followed (noted_active s.seat w first n notes));
       only = only;
       walk = record {
         came = noted_came s.seat w first n notes;
@@ -79,29 +81,34 @@ first_stays {M} {P} start span runs refused s now class first n w same known beg
       };
     }
 
-pub first_leaves : {M P : Type 0} (start : Start) (span : M → Span) (runs : M → List mapper.Run) (refused : M → Refusals) (s now : State M P) (class first n : ℕ) (w : View) (t : RingTable)
+pub first_leaves : {M P : Type 0} (start : Start) (span : M → Span) (runs : M → List mapper.Run) (refused : M → Refusals) (s now : State M P) (class first n : ℕ) (w u : View) (t : RingTable)
     → s ≡ now → IsTable s.rings → class < 48 → slice_get (ring_of now.rings class) 0 ≡ Some first → IsBare now.seat.desk.zero_avail now.rings class → n ≡ 0
-    → NotesRing s.seat first false n w → t ≡ left s.rings class first → Working start span runs refused now
-    → Walks start span runs refused class first now (record s { seat = w; rings = t })
-first_leaves {M} {P} start span runs refused s now class first n w t same is known begins bare none noted gone works =
-    subst (λ (t' : RingTable). Walks start span runs refused class first now (record s { seat = w; rings = t' })) (sym gone)
+    → NotesRing s.seat first false n w → t ≡ left s.rings class first → u ≡ active_set w class (first_of (ring_of t class))
+    → Working start span runs refused now → Walks start span runs refused class first now (record s { seat = u; rings = t })
+first_leaves {M} {P} start span runs refused s now class first n w u t same is known begins bare none noted gone sets works =
+    subst (λ (x : View). Walks start span runs refused class first now (record s { seat = x; rings = t })) (sym sets)
+    (subst (λ (t' : RingTable). Walks start span runs refused class first now (record s { seat = active_set w class (first_of (ring_of t' class)); rings = t' })) (sym gone)
     (subst (λ (before : State M P). Walks start span runs refused class first before after) same
     (leaves
     (subst (λ (u : State M P). slice_get (ring_of u.rings class) 0 ≡ Some first) (sym same) begins)
     (subst (λ (u : State M P). IsBare u.seat.desk.zero_avail u.rings class) (sym same) bare)
-    (subst (λ (u : State M P). Working start span runs refused u) (sym same) works)))
+    (subst (λ (u : State M P). Working start span runs refused u) (sym same) works))))
   where
     notes : NotesRing s.seat first false 0 w
     notes = subst (λ (k : ℕ). NotesRing s.seat first false k w) none noted
 
+    word : ℕ
+    word = first_of (ring_of (left s.rings class first) class)
+
     after : State M P
-    after = record s { seat = w; rings = left s.rings class first }
+    after = record s { seat = active_set w class word; rings = left s.rings class first }
 
     kept : (m : ℕ) → Among m s.seat.desk.zero_avail → Among m w.desk.zero_avail
     kept m = subst (Among m) (sym (noted_avail s.seat w first 0 notes))
 
     only : IsIn s.rings class first → OnlyRing class s after
-    only in' = only_here class s w (left s.rings class first) (without first (ring_of s.rings class)) (noted_search s.seat w first 0 notes) (noted_came s.seat w first 0 notes) (left_changes s.rings class first in') (λ k m below apart there zero. kept m zero)
+    only in' = only_here class s (active_set w class word) (left s.rings class first) (without first (ring_of s.rings class))
+        (set_search s.seat w class word (noted_search s.seat w first 0 notes)) (set_came s.seat w class word (noted_came s.seat w first 0 notes)) (left_changes s.rings class first in') (λ k m below apart there zero. kept m zero)
 
     ringed : IsIn s.rings class first → Among first s.seat.desk.zero_avail → AreRinged s.seat.desk.groups s.seat.desk.listed s.seat.desk.zero_avail s.rings
         → AreRinged s.seat.desk.groups w.desk.listed w.desk.zero_avail (left s.rings class first)
@@ -118,7 +125,8 @@ first_leaves {M} {P} start span runs refused s now class first n w t same is kno
     leaves begins' bare' works' =
         let in' : IsIn s.rings class first = Contains-first (ring_of s.rings class) first (sym begins') in
         record {
-          working = only_works start span runs refused class s after (only in') refl (ringed in' (bare' first in') works'.stands.ringed) works';
+          working = only_works start span runs refused class s after (only in') refl (ringed in' (bare' first in') works'.stands.ringed) works'
+              (followed_ring works'.followed w.desk.active (left s.rings class first) class (without first (ring_of s.rings class)) (noted_active s.seat w first 0 notes) refl);
           only = only in';
           walk = record {
             came = record { words = (first + 28, 0) ∷ []; readings = ap (λ (u : View). u.readings) notes.view };

@@ -29,6 +29,7 @@ use Rattle.ng_group.specs.States.{State, Working}
 use Rattle.ng_group.specs.Steps.{Came}
 use Rattle.ng_group.proofs.ServingLemmas.{only_seat}
 use Rattle.ng_group.proofs.TakeLemmas.{Serves, plain_room}
+use Rattle.ng_group.proofs.WordLemmas.{followed_same}
 use Rattle.ng_group.proofs.WorkingLemmas.{only_works}
 
 -- ---- steps on the seat by which more is noted of avail masks
@@ -36,6 +37,7 @@ pub record Grows (v w : View) : Type 0 where
   pub view : w ≡ with_search v w
   pub came : Came v w
   pub listed : w.desk.listed ≡ v.desk.listed
+  pub active : w.desk.active ≡ v.desk.active
   pub zero : (m : ℕ) → Among m v.desk.zero_avail → Among m w.desk.zero_avail
 
 pub grows_groups : (v w : View) → Grows v w → w.desk.groups ≡ v.desk.groups
@@ -47,6 +49,7 @@ notes_grow v w notes = record {
   view = subst (λ (u : View). u ≡ with_search v u) (sym notes.noted.view) refl;
   came = record { words = notes.words; readings = ap (λ (u : View). u.readings) notes.noted.view };
   listed = ap (λ (u : View). u.desk.listed) notes.noted.view;
+  active = ap (λ (u : View). u.desk.active) notes.noted.view;
   zero = notes.noted.zero_avail;
 }
 
@@ -59,6 +62,7 @@ none_grows v w meta finds = subst (Grows v) (sym finds.view) (record {
   view = refl;
   came = record { words = (meta + 24, finds.word) ∷ []; readings = refl };
   listed = refl;
+  active = refl;
   zero = λ m there. inr there;
 })
 
@@ -69,12 +73,14 @@ lowest_grows v w meta index has takes = ⊎_elim
       view = refl;
       came = record { words = (meta + 24, takes.word) ∷ []; readings = refl };
       listed = refl;
+      active = refl;
       zero = λ m there. inr there;
     }))
     (λ (others : LeavesOthers v meta index takes.word w). subst (Grows v) (sym (others.view has.group has.there has.of_meta)) (record {
       view = refl;
       came = record { words = (meta + 24, takes.word) ∷ (meta + 24, others.again) ∷ []; readings = append_assoc v.readings ((meta + 24, takes.word) ∷ []) ((meta + 24, others.again) ∷ []) };
       listed = refl;
+      active = refl;
       zero = λ m there. there;
     }))
     takes.views
@@ -100,7 +106,7 @@ passes {M} {P} start span runs refused s now class w same grows works =
 
     at : Working start span runs refused s → Passes start span runs refused class s (record s { seat = w })
     at works' = record {
-      working = only_works start span runs refused class s (record s { seat = w }) only' refl (ringed works'.stands.ringed) works';
+      working = only_works start span runs refused class s (record s { seat = w }) only' refl (ringed works'.stands.ringed) works' (followed_same works'.followed grows.active);
       only = only';
     }
 

@@ -1,3 +1,4 @@
+pub mod WordLemmas
 pub mod WorkingLemmas
 pub mod ServingLemmas
 pub mod FirstLemmas

@@ -36,7 +36,7 @@ use Rattle.ng_terms.specs.Accounts.{pages_for}
 use Rattle.ng_view.specs.Conditions.{Sees}
 use Rattle.ng_view.specs.Layouts.{InArea, IsLoneKind}
 use Rattle.ng_view.specs.Lists.{Among}
-use Rattle.ng_view.specs.LockSteps.{has_number, others, read_bits, ring_noted, ring_read, run_noted}
+use Rattle.ng_view.specs.LockSteps.{counter_set, has_number, others, read_bits, ring_noted, ring_read, run_noted}
 use Rattle.ng_view.specs.Places.{room, stride}
 use Rattle.ng_view.specs.Steps.{in_motion, read}
 use Rattle.ng_view.specs.declared.view.Group.{Group}
@@ -47,7 +47,7 @@ use Rattle.ng_view.specs.declared.view.View.{View}
 use Rattle.ng_group.specs.Building.{HasInHand}
 use Rattle.ng_group.specs.Lone.{BuildsAlone}
 use Rattle.ng_group.specs.Serving.{HasServed}
-use Rattle.ng_group.specs.States.{IsWorking, State, ledger_of}
+use Rattle.ng_group.specs.States.{AreFollowed, IsWorking, State, ledger_of}
 use Rattle.ng_group.specs.Steps.{HandsOver}
 use Rattle.ng_group.proofs.MappingLemmas.{with_seat}
 
@@ -247,6 +247,7 @@ module _ {start : Start} {span span' : Span} {live live' : List mapper.Run} {was
           parents = old.space.parents;
         };
         stands = subst (λ (x : View). Stands start live' (with_seat l x)) (sym view) stands_shown;
+        followed = subst (λ (x : View). AreFollowed x.desk.active x.desk.counter l.rings l.counter) (sym view) old.followed;
         counted = subst (λ (x : View). x.desk.refusals ≤ now.count) (sym view) (omega (arith, old.counted, c.calm.later));
         leads = ap (λ (x : View). x.leads) view ∙ old.leads;
         bookless = ap (λ (x : View). x.books) view ∙ old.bookless;
@@ -280,9 +281,9 @@ module _ {start : Start} {span span' : Span} {live live' : List mapper.Run} {was
   }
 
   -- and nothing else did
-  pub built_alone : {M P : Type 0} (s s' e : State M P) (pages : ℕ) → s ≡ s' → s.seat ≡ l.seat → e.seat ≡ w → g.maplen ≡ pages
+  pub built_alone : {M P : Type 0} (s s' e : State M P) (pages word : ℕ) → s ≡ s' → counter_set s.seat word ≡ l.seat → e.seat ≡ w → g.maplen ≡ pages
       → e.counter ≡ (s.counter + 1) % 2 ^ 64 → BuildsAlone g.meta pages s' e
-  built_alone {M = M} {P = P} s s' e pages same was is paged counter = subst (λ (x : State M P). BuildsAlone g.meta pages x e) same (record {
+  built_alone {M = M} {P = P} s s' e pages word same was is paged counter = subst (λ (x : State M P). BuildsAlone g.meta pages x e) same (record {
     group = g;
     of_meta = refl;
     of_class = c.kind.lone;

@@ -1,14 +1,15 @@
 -- What stands of the books once a group has come on a run of its own, and once a map call for it was refused.
-use Rattle.std.proofs.Common.{◌≡◌, ◌≢◌, ◌⊎◌, ℕ, ◌+◌, ◌-◌, ◌*◌, ◌%◌, ◌<◌, ◌≤◌, eqb, cond, true, List, [], ◌∷◌, ◌++◌, Contains, slice_index, slice_set, refl, sym, ap, subst, ◌∙◌, ⊎_elim, inl, inr, arith}
+use Rattle.std.proofs.Common.{◌≡◌, ◌≢◌, ◌⊎◌, ℕ, ◌+◌, ◌-◌, ◌*◌, ◌%◌, ◌^◌, ◌<◌, ◌≤◌, eqb, cond, true, List, [], ◌∷◌, ◌++◌, Contains, set, slice_index, slice_set, refl, sym, ap, subst, ◌∙◌, ⊎_elim, inl, inr, arith}
 use Rattle.ng_build.specs.Cells.{knowing}
 use Rattle.ng_build.specs.Drafts.{IsLarge}
 use Rattle.ng_build.specs.Drafts as draft
 use Rattle.ng_build.specs.Runs.{IsMetaOutside, PublishesRun, with_group}
 use Rattle.ng_group.specs.Building.{HasInHand, with_used}
 use Rattle.ng_group.specs.Serving.{HasServed}
-use Rattle.ng_group.specs.States.{IsWorking, State, ledger_of}
+use Rattle.ng_group.specs.States.{AreFollowed, IsWorking, State, ledger_of}
 use Rattle.ng_group.specs.Steps.{HandsOver, LeavesBelow}
 use Rattle.ng_group.proofs.BuildingLemmas.{rings_below, usage_below, zero_grows}
+use Rattle.ng_group.proofs.WordLemmas.{followed_first}
 use Rattle.ng_ledger.specs.Groups.{IsGroup}
 use Rattle.ng_ledger.specs.Metas.{IsBlankMeta, IsFreeMeta}
 use Rattle.ng_ledger.specs.Rings.{IsBare, IsTable, entered_first}
@@ -38,7 +39,7 @@ use Rattle.ng_supply.specs.Runs.{IsHeapMapper, MapsRun, RefusesRun}
 use Rattle.ng_view.specs.Conditions.{IsEmpty, IsUnborn, Sees}
 use Rattle.ng_view.specs.Layouts.{InArea}
 use Rattle.ng_view.specs.Lists.{Among}
-use Rattle.ng_view.specs.LockSteps.{refused, run_noted}
+use Rattle.ng_view.specs.LockSteps.{active_set, counter_set, refused, run_noted}
 use Rattle.ng_view.specs.Places.{reach, room}
 use Rattle.ng_view.specs.Steps.{in_motion, read}
 use Rattle.ng_view.specs.declared.view.Group.{Group}
@@ -49,7 +50,7 @@ use Rattle.ng_view.specs.declared.view.View.{View}
 
 -- the books with another view of the seat
 abbrev pub with_seat : Ledger → View → Ledger
-with_seat l v = record { seat = v; rings = l.rings; stock = l.stock; parents = l.parents; usage = l.usage }
+with_seat l v = record { seat = v; rings = l.rings; stock = l.stock; parents = l.parents; usage = l.usage; counter = l.counter }
 
 -- what holds where a call builds a group of a class with a meta
 pub record MayBuild (start : Start) (span : Span) (live : List mapper.Run) (refused : Refusals) (l : Ledger) (class m : ℕ) : Type 0 where
@@ -126,6 +127,63 @@ group_in_space start g is live place few paged whole inside = record {
   inside = let fits : reach g ≤ 4096 * g.maplen = is.fits in omega (arith, fits, inside);
 }
 
+-- ---- the run is counted, and the counter's word follows
+
+-- the books then, of which the counter is n
+abbrev pub counted_up : Ledger → ℕ → Ledger
+counted_up l n = record l { seat = counter_set l.seat (n % 2 ^ 32); counter = n }
+
+pub counted_works : {start : Start} {span : Span} {live : List mapper.Run} {refused : Refusals} {l : Ledger} (n : ℕ)
+    → IsWorking start span live refused l → IsWorking start span live refused (counted_up l n)
+counted_works n is = record {
+  space = record { lower = is.space.lower; upper = is.space.upper; size = is.space.size; rings = is.space.rings; stock = is.space.stock; parents = is.space.parents };
+  stands = record {
+    groups = is.stands.groups;
+    ringed = is.stands.ringed;
+    free = is.stands.free;
+    of_areas = is.stands.of_areas;
+    area = is.stands.area;
+    mapped = is.stands.mapped;
+    served = is.stands.served;
+    founded = is.stands.founded;
+    used = is.stands.used;
+    nested = is.stands.nested;
+    carried = is.stands.carried;
+  };
+  followed = record { firsts = is.followed.firsts; low = refl };
+  counted = is.counted;
+  leads = is.leads;
+  bookless = is.bookless;
+}
+
+pub counted_hand : {start : Start} {l : Ledger} {m : ℕ} (n : ℕ) → HasInHand start l m → HasInHand start (counted_up l n) m
+counted_hand n has = record { free = has.free; taken = has.taken }
+
+-- the run is new to these books too
+pub maps_counted : {start : Start} {v u w : View} {a pages : ℕ} (n : ℕ) → MapsRun start v a pages u → w ≡ counter_set u (n % 2 ^ 32)
+    → MapsRun start (counter_set v (n % 2 ^ 32)) a pages w
+maps_counted {start = start} {v = v} {a = a} {pages = pages} n maps sets =
+    subst (MapsRun start (counter_set v (n % 2 ^ 32)) a pages) (sym sets) (record {
+      note = record {
+        found = maps.note.found;
+        view = ap (λ (x : View). counter_set x (n % 2 ^ 32)) maps.note.view;
+        empty = maps.note.empty;
+      };
+      space = maps.space;
+      new = record { whole = maps.new.whole; some = maps.new.some; above = maps.new.above; below = maps.new.below; apart = maps.new.apart };
+      zero = maps.zero;
+    })
+
+pub mapped_counted : (u w : View) {x : ℕ} {live : List mapper.Run} → AreMapped u.desk.layout.runs live → w ≡ counter_set u x → AreMapped w.desk.layout.runs live
+mapped_counted u w {live = live} are sets = subst (λ (y : View). AreMapped y.desk.layout.runs live) (sym sets) are
+
+-- what a call leaves of them, it leaves of the books before
+pub over_counted : {l after : Ledger} {m : ℕ} (n : ℕ) → HandsOver m (counted_up l n) after → HandsOver m l after
+over_counted n over = record { gone = over.gone; none_more = over.none_more; none_less = over.none_less; blank = over.blank }
+
+pub below_counted : {l after : Ledger} {class : ℕ} (n : ℕ) → LeavesBelow class (counted_up l n) after → LeavesBelow class l after
+below_counted n below = record { rings = below.rings; usage = below.usage; bare = below.bare }
+
 -- ---- and the group
 
 -- what is known where a group comes on a new run
@@ -160,7 +218,14 @@ module _ {start : Start} {span span' : Span} {live live' : List mapper.Run} {was
 
   -- the books after it, where the seat has that view
   abbrev pub after_run : View → Ledger
-  after_run x = record { seat = x; rings = entered_first l.rings class g.meta; stock = l.stock; parents = l.parents; usage = with_used l.usage class slots }
+  after_run x = record {
+    seat = active_set x class g.meta;
+    rings = entered_first l.rings class g.meta;
+    stock = l.stock;
+    parents = l.parents;
+    usage = with_used l.usage class slots;
+    counter = l.counter;
+  }
 
   view : w ≡ shown
   view = c.publishes.view ∙ ap (λ (x : View). knowing (with_group x g active) w.desk.cells x.readings) c.note.view
@@ -234,6 +299,7 @@ module _ {start : Start} {span span' : Span} {live live' : List mapper.Run} {was
           parents = old.space.parents;
         };
         stands = subst (λ (x : View). Stands start live' (after_run x)) (sym view) stands_shown;
+        followed = subst (λ (x : View). AreFollowed (set x.desk.active class g.meta) x.desk.counter (entered_first l.rings class g.meta) l.counter) (sym view) (followed_first old.followed class g.meta);
         counted = subst (λ (x : View). x.desk.refusals ≤ now.count) (sym view) (omega (arith, old.counted, c.calm.later));
         leads = ap (λ (x : View). x.leads) view ∙ old.leads;
         bookless = ap (λ (x : View). x.books) view ∙ old.bookless;
@@ -265,7 +331,7 @@ module _ {start : Start} {span span' : Span} {live live' : List mapper.Run} {was
   pub motion_mapped : l.seat.held ≡ [] → w.held ≡ in_motion g 0 ∷ []
   motion_mapped idle = ap (λ (x : View). x.held) view ∙ ap (λ hs. in_motion g 0 ∷ hs) idle
 
-  pub served_mapped : (bytes : ℕ) → l.seat.held ≡ [] → bytes + 4 ≤ room g → HasServed class bytes w g.meta 0
+  pub served_mapped : (bytes : ℕ) → l.seat.held ≡ [] → bytes + 4 ≤ room g → HasServed class bytes (active_set w class g.meta) g.meta 0
   served_mapped bytes idle roomy = record {
     group = g;
     there = subst (Among g) (sym groups_mapped) (inl refl);
@@ -310,6 +376,7 @@ module _ {start : Start} {span : Span} {live : List mapper.Run} {was now : Refus
       parents = old.space.parents;
     };
     stands = subst (λ (x : View). Stands start live' (with_seat l x)) (sym refuses.note.view) (stands_left live' same);
+    followed = subst (λ (x : View). AreFollowed x.desk.active x.desk.counter l.rings l.counter) (sym refuses.note.view) old.followed;
     counted = counted;
     leads = ap (λ (x : View). x.leads) refuses.note.view ∙ old.leads;
     bookless = ap (λ (x : View). x.books) refuses.note.view ∙ old.bookless;

@@ -1,5 +1,5 @@
 -- What stands of the books once a group has come in a slot of another.
-use Rattle.std.proofs.Common.{◌≡◌, ◌≢◌, ◌⊎◌, ℕ, ◌+◌, ◌-◌, ◌*◌, ◌/◌, ◌%◌, ◌<◌, ◌≤◌, ◌^◌, eqb, cond, List, [], ◌∷◌, ◌++◌, Contains, Some, slice_index, slice_set, append_assoc, refl, sym, ap, subst, ◌∙◌, ⊎_elim, inl, inr, arith}
+use Rattle.std.proofs.Common.{◌≡◌, ◌≢◌, ◌⊎◌, ℕ, ◌+◌, ◌-◌, ◌*◌, ◌/◌, ◌%◌, ◌<◌, ◌≤◌, ◌^◌, eqb, cond, List, [], ◌∷◌, ◌++◌, Contains, Some, set, slice_index, slice_set, append_assoc, refl, sym, ap, subst, ◌∙◌, ⊎_elim, inl, inr, arith}
 use Rattle.std.proofs.Math.Nat.{min-le_left, mul-le-mul_left}
 use Rattle.std.proofs.lemmas.Bool.{eq-eqb}
 use Rattle.ng_build.specs.Cells.{knowing}
@@ -10,10 +10,11 @@ use Rattle.ng_class.specs.Slot.{IsGroupClass, stride_of}
 use Rattle.ng_class.proofs.Slots.{room_of_slot, stride_of_nested}
 use Rattle.ng_group.specs.Building.{HasInHand, with_used}
 use Rattle.ng_group.specs.Serving.{HasServed}
-use Rattle.ng_group.specs.States.{IsWorking, State, ledger_of}
+use Rattle.ng_group.specs.States.{AreFollowed, IsWorking, State, ledger_of}
 use Rattle.ng_group.specs.Steps.{GoesOn, HandsOver, LeavesBelow}
 use Rattle.ng_group.proofs.BuildingLemmas.{rings_below, usage_below, zero_grows}
 use Rattle.ng_group.proofs.MappingLemmas.{MayBuild, absent, may_build}
+use Rattle.ng_group.proofs.WordLemmas.{followed_first}
 use Rattle.ng_ledger.specs.Groups.{IsGroup}
 use Rattle.ng_ledger.specs.Metas.{IsBlankMeta, IsFreeMeta}
 use Rattle.ng_ledger.specs.Rings.{IsBare, IsTable, entered_first}
@@ -42,6 +43,7 @@ use Rattle.ng_shelf.specs.Stock.{free_of}
 use Rattle.ng_view.specs.Conditions.{IsUnborn, Sees}
 use Rattle.ng_view.specs.Layouts.{InArea, IsNested}
 use Rattle.ng_view.specs.Lists.{Among, find, without}
+use Rattle.ng_view.specs.LockSteps.{active_set}
 use Rattle.ng_view.specs.Places.{reach, room, size_of, stride}
 use Rattle.ng_view.specs.Steps.{in_motion, read}
 use Rattle.ng_view.specs.declared.view.Group.{Group}
@@ -263,7 +265,14 @@ module _ {start : Start} {span : Span} {live : List mapper.Run} {refused : Refus
 
   -- the books after it, where the seat has that view
   abbrev pub after_slot : View → Ledger
-  after_slot x = record { seat = x; rings = entered_first l.rings class g.meta; stock = l.stock; parents = table; usage = with_used l.usage class slots }
+  after_slot x = record {
+    seat = active_set x class g.meta;
+    rings = entered_first l.rings class g.meta;
+    stock = l.stock;
+    parents = table;
+    usage = with_used l.usage class slots;
+    counter = l.counter;
+  }
 
   found : find parent index u.held ≡ Some (in_motion p index)
   found =
@@ -341,12 +350,13 @@ module _ {start : Start} {span : Span} {live : List mapper.Run} {refused : Refus
           parents = c.pages ∙ old.space.parents;
         };
         stands = subst (λ (x : View). Stands start live (after_slot x)) (sym view) stands_shown;
+        followed = subst (λ (x : View). AreFollowed (set x.desk.active class g.meta) x.desk.counter (entered_first l.rings class g.meta) l.counter) (sym view) (followed_first old.followed class g.meta);
         counted = subst (λ (x : View). x.desk.refusals ≤ refused.count) (sym view) old.counted;
         leads = ap (λ (x : View). x.leads) view ∙ old.leads;
         bookless = ap (λ (x : View). x.books) view ∙ old.bookless;
       }
 
-  pub on_nested : GoesOn l.seat w
+  pub on_nested : GoesOn l.seat (active_set w class g.meta)
   on_nested =
       let mem : List (ℕ × ℕ) = (parent + 16, c.reads.mem) ∷ [] in
       let flags : List (ℕ × ℕ) = (parent + 32, c.reads.flags) ∷ [] in
@@ -381,7 +391,7 @@ module _ {start : Start} {span : Span} {live : List mapper.Run} {refused : Refus
   pub motion_nested : w.held ≡ in_motion g 0 ∷ []
   motion_nested = ap (λ (x : View). x.held) view ∙ ap (λ hs. in_motion g 0 ∷ without parent index hs) c.motion ∙ ap (λ hs. in_motion g 0 ∷ hs) (without_alone p parent index c.of_parent)
 
-  pub served_nested : (bytes : ℕ) → bytes + 4 ≤ room g → HasServed class bytes w g.meta 0
+  pub served_nested : (bytes : ℕ) → bytes + 4 ≤ room g → HasServed class bytes (active_set w class g.meta) g.meta 0
   served_nested bytes roomy = record {
     group = g;
     there = subst (Among g) (sym groups_nested) (inl refl);

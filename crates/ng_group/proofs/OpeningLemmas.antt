@@ -1,5 +1,5 @@
 -- What holds of a core as it opens and as it closes, and how large the numbers are that the rules are asked.
-use Rattle.std.proofs.Common.{◌≡◌, ℕ, ◌+◌, ◌^◌, ◌<◌, ◌≤◌, List, [], Contains, slice_index, length, replicate, refl, sym, ap, subst, ◌∙◌, inl, arith}
+use Rattle.std.proofs.Common.{◌≡◌, ℕ, ◌+◌, ◌^◌, ◌<◌, ◌≤◌, List, [], Contains, slice_index, length, map, replicate, refl, sym, ap, subst, ◌∙◌, inl, arith}
 use Rattle.std.specs.List.{slice_index_or}
 use Rattle.std.proofs.lemmas.List.{get_or-replicate, length-replicate}
 use Rattle.ng_mapper.specs.Mapping.{AreLaid, Span}
@@ -24,7 +24,7 @@ use Rattle.ng_ledger.proofs.ServedLemmas.{settled}
 use Rattle.ng_ledger.proofs.TableLemmas.{nowhere, tail_in}
 use Rattle.ng_ledger.proofs.UsageLemmas.{bounded}
 use Rattle.ng_group.specs.Opening.{AreEmpty, IsFreshMapper, IsFreshSeat, IsHandedBack, IsMostBounded}
-use Rattle.ng_group.specs.States.{IsResting, IsWorking, Resting, State, Working}
+use Rattle.ng_group.specs.States.{IsResting, IsWorking, Resting, State, Working, first_of}
 
 -- ---- the usage of a class is far below 2 ^ 32
 pub usage_below : {start : Start} {span : Span} {live : List mapper.Run} {refused : Refusals} {l : Ledger} (class : ℕ)
@@ -79,7 +79,7 @@ used_none = record {
 module _ (start : Start) (span : Span) (live : List mapper.Run) (refused : Refusals) (t : RingTable) (s : Stock) (p : ParentTable)
     (empty : AreEmpty start.pages (record { rings = t; stock = s; parents = p })) (mapper : IsFreshMapper start span live refused) where
   abbrev books : View → Ledger
-  books v = record { seat = v; rings = t; stock = s; parents = p; usage = replicate 48 0 }
+  books v = record { seat = v; rings = t; stock = s; parents = p; usage = replicate 48 0; counter = 0 }
 
   stands_open : (hands : ℕ) → Stands start live (books (opened start hands))
   stands_open hands = record {
@@ -108,6 +108,7 @@ module _ (start : Start) (span : Span) (live : List mapper.Run) (refused : Refus
         parents = empty.parent_pages;
       };
       stands = stands_open hands;
+      followed = record { firsts = ap (map first_of) (sym empty.rings); low = refl };
       counted = let same = mapper.count in omega (arith, same);
       leads = refl;
       bookless = refl;

@@ -67,6 +67,7 @@ put_works start span live refused l meta works has = record {
     nested = works.stands.nested;
     carried = works.stands.carried;
   };
+  followed = works.followed;
   counted = works.counted;
   leads = works.leads;
   bookless = works.bookless;
@@ -206,7 +207,7 @@ module _ {M P : Type 0} (start : Start) (span : M → Span) (runs : M → List m
     where
       seen : (words : List (ℕ × ℕ)) → Working start span runs refused (record s { seat = record s.seat { readings = words } })
       seen words = searched start (span s.mapper) (runs s.mapper) (refused s.mapper) (ledger_of s) (record s.seat { readings = words }) s.rings works refl refl
-          works.stands.ringed
+          works.stands.ringed works.followed
 
   -- so too of the core whose parts are named
   pub keeps_read : {s s' : State M P} (w : View) → s ≡ s' → Reads s.seat w → Working start span runs refused s'

@@ -1,5 +1,5 @@
 -- What the rules are asked of a group, and how a slot comes back into its group.
-use Rattle.std.proofs.Common.{◌≡◌, ◌≢◌, ℕ, ◌+◌, ◌<◌, ◌≤◌, ◌&&◌, Bool, true, cond, eqb, List, [], ◌∷◌, Some, None, refl, sym, ap, subst, ◌∙◌, ⊎_elim, inl, inr, arith}
+use Rattle.std.proofs.Common.{◌≡◌, ◌≢◌, ℕ, ◌+◌, ◌<◌, ◌≤◌, ◌&&◌, Bool, true, cond, eqb, List, [], ◌∷◌, ◌++◌, Some, None, refl, sym, ap, subst, ◌∙◌, ⊎_elim, inl, inr, arith}
 use Rattle.std.specs.List.{slice_index}
 use Rattle.std.proofs.lemmas.Bool.{eq-eqb}
 use Rattle.ng_mapper.specs.Mapping.{Span}
@@ -7,10 +7,10 @@ use Rattle.ng_mapper.specs.Runs as mapper
 use Rattle.ng_mapper.specs.declared.refusals.Refusals.{Refusals}
 use Rattle.ng_class.specs.Slot.{IsGroupClass}
 use Rattle.ng_policy.specs.Ask.{SpareInRange}
-use Rattle.ng_lists.specs.Rings.{RingTable, IsListed}
+use Rattle.ng_lists.specs.Rings.{RingTable, IsListed, ring_of}
 use Rattle.ng_view.specs.Layouts.{IsLoneKind, IsSmallKind}
 use Rattle.ng_view.specs.Lists.{Among, find, is_at, without}
-use Rattle.ng_view.specs.LockSteps.{ring_read}
+use Rattle.ng_view.specs.LockSteps.{active_set, ring_read}
 use Rattle.ng_view.specs.Slots.{IsPlain}
 use Rattle.ng_view.specs.Steps.{read}
 use Rattle.ng_view.specs.declared.view.Group.{Group}
@@ -31,7 +31,8 @@ use Rattle.ng_ledger.proofs.RingLemmas.{enter, noted_from_listed}
 use Rattle.ng_ledger.proofs.UsageLemmas.{bounded}
 use Rattle.ng_group.specs.Returning.{Enlists, GoesBack, HasReturned}
 use Rattle.ng_group.specs.Serving.{OnlyRing, with_search}
-use Rattle.ng_group.specs.States.{IsWorking, State, Working, ledger_of}
+use Rattle.ng_group.specs.States.{IsWorking, State, Working, first_of, ledger_of, with_active}
+use Rattle.ng_group.proofs.WordLemmas.{followed_ring, followed_same, set_search}
 use Rattle.ng_group.proofs.WorkingLemmas.{only_then, searched}
 
 -- ---- the numbers of a live group
@@ -79,17 +80,22 @@ module _ {M P : Type 0} (start : Start) (span : M → Span) (runs : M → List m
       (noted_from_listed s.seat.desk.groups s.seat.desk.listed s.seat.desk.zero_avail s.rings meta is works.stands.ringed listed)
 
   -- and one that comes leaves the books right
-  pub enlisted : (class meta n : ℕ) (w : View) (t : RingTable) → IsTable s.rings → class < 48 → IsOfClass now.seat.desk.groups meta class → Among meta now.seat.desk.zero_avail
-      → NotesRing s.seat meta true n w → t ≡ entered s.rings class meta → Working start span runs refused (record s { seat = w; rings = t })
-  enlisted class meta n w t is known of_class zero notes turn =
+  pub enlisted : (class meta n : ℕ) (w u : View) (t : RingTable) → IsTable s.rings → class < 48 → IsOfClass now.seat.desk.groups meta class → Among meta now.seat.desk.zero_avail
+      → NotesRing s.seat meta true n w → t ≡ entered s.rings class meta → u ≡ active_set w class (first_of (ring_of t class))
+      → Working start span runs refused (record s { seat = u; rings = t })
+  enlisted class meta n w u t is known of_class zero notes turn sets =
       let of_class' : IsOfClass s.seat.desk.groups meta class = subst (λ (x : State M P). IsOfClass x.seat.desk.groups meta class) (sym same) of_class in
       let zero' : Among meta s.seat.desk.zero_avail = subst (λ (x : State M P). Among meta x.seat.desk.zero_avail) (sym same) zero in
       let view : w ≡ with_search s.seat w = subst (λ (x : View). x ≡ with_search s.seat x) (sym notes.view) refl in
       let ringed : AreRinged s.seat.desk.groups w.desk.listed w.desk.zero_avail (entered s.rings class meta) =
       subst (λ (x : View). AreRinged s.seat.desk.groups x.desk.listed x.desk.zero_avail (entered s.rings class meta)) (sym notes.view)
       (enter s.seat.desk.groups s.seat.desk.listed s.seat.desk.zero_avail s.rings class meta is known of_class' zero' works.stands.ringed) in
-      subst (λ (r : RingTable). Working start span runs refused (record s { seat = w; rings = r })) (sym turn)
-      (searched start (span s.mapper) (runs s.mapper) (refused s.mapper) (ledger_of s) w (entered s.rings class meta) works view refl ringed)
+      let word : ℕ = first_of (ring_of (entered s.rings class meta) class) in
+      subst (λ (x : View). Working start span runs refused (record s { seat = x; rings = t })) (sym sets)
+      (subst (λ (r : RingTable). Working start span runs refused (record s { seat = active_set w class (first_of (ring_of r class)); rings = r })) (sym turn)
+      (searched start (span s.mapper) (runs s.mapper) (refused s.mapper) (ledger_of s) (active_set w class word) (entered s.rings class meta) works
+      (set_search s.seat w class word view) refl ringed
+      (followed_ring works.followed w.desk.active (entered s.rings class meta) class (ring_of s.rings class ++ meta ∷ []) (ap (λ (x : View). x.desk.active) notes.view) refl)))
 
 -- ---- a step on the masks of one group
 
@@ -103,6 +109,7 @@ changed_view v w meta changes = changes.view ∙ ap
         zero_avail = w.desk.zero_avail;
         zero_freed = w.desk.zero_freed;
         set_freed = w.desk.set_freed;
+        active = x.desk.active;
       };
     })
     (sym changes.view)
@@ -124,6 +131,7 @@ pub changed_works : {M P : Type 0} (start : Start) (span : M → Span) (runs : M
 changed_works start span runs refused meta s w changes ringed works =
     searched start (span s.mapper) (runs s.mapper) (refused s.mapper) (ledger_of s) w s.rings works (changed_view s.seat w meta changes) refl
     (subst (λ ls. AreRinged s.seat.desk.groups ls w.desk.zero_avail s.rings) (sym (changes_listed s.seat w meta changes)) ringed)
+    (followed_same works.followed (ap (λ (x : View). x.desk.active) changes.view))
 
 -- ---- a slot comes back
 
@@ -192,15 +200,16 @@ module _ {M P : Type 0} {s now : State M P} (class meta : ℕ) (same : s ≡ now
   pub enlists_here : IsListed s.rings meta → Enlists class meta now now
   enlists_here listed = inl (subst (λ (x : State M P). IsListed x.rings meta) same listed, refl)
 
-  pub enlists_last : (n : ℕ) (w : View) (t : RingTable) → ¬ IsListed s.rings meta → NotesRing s.seat meta true n w → t ≡ entered s.rings class meta
-      → Enlists class meta now (record s { seat = w; rings = t })
-  enlists_last n w t absent notes turn = subst (λ (x : State M P). Enlists class meta x (record s { seat = w; rings = t })) same
+  pub enlists_last : (n : ℕ) (w u : View) (t : RingTable) → ¬ IsListed s.rings meta → NotesRing s.seat meta true n w → t ≡ entered s.rings class meta
+      → u ≡ active_set w class (first_of (ring_of t class)) → Enlists class meta now (record s { seat = u; rings = t })
+  enlists_last n w u t absent notes turn sets = subst (λ (x : State M P). Enlists class meta x (record s { seat = u; rings = t })) same
       (inr (
         absent,
         (
           n,
-          ap (λ (v : View). record s { seat = v; rings = t }) notes.view
-              ∙ ap (λ (r : RingTable). record s { seat = read (ring_read s.seat meta true n) (meta + 28) n; rings = r }) turn,
+          ap (λ (v : View). record s { seat = v; rings = t }) sets
+              ∙ ap (λ (v : View). with_active (record s { seat = v; rings = t }) class) notes.view
+              ∙ ap (λ (r : RingTable). with_active (record s { seat = read (ring_read s.seat meta true n) (meta + 28) n; rings = r }) class) turn,
         ),
       ))
 

@@ -98,6 +98,9 @@ noted_came v w meta n notes = record {
 pub noted_avail : (v w : View) (meta n : ℕ) → NotesRing v meta false n w → w.desk.zero_avail ≡ v.desk.zero_avail
 noted_avail v w meta n notes = ap (λ (u : View). u.desk.zero_avail) notes.view
 
+pub noted_active : (v w : View) (meta n : ℕ) → NotesRing v meta false n w → w.desk.active ≡ v.desk.active
+noted_active v w meta n notes = ap (λ (u : View). u.desk.active) notes.view
+
 pub noted_held : (v w : View) (meta n : ℕ) → NotesRing v meta false n w → w.held ≡ v.held
 noted_held v w meta n notes = ap (λ (u : View). u.held) notes.view
 

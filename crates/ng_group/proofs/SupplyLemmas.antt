@@ -22,7 +22,7 @@ use Rattle.ng_ledger.proofs.ElementLemmas.{contains_get}
 use Rattle.ng_ledger.proofs.MetaLemmas.{of_area, stock_area}
 use Rattle.ng_supply.specs.Metas.{FindsMeta, IsHeapStock, TakesNext, TakesOfArea}
 use Rattle.ng_supply.specs.Runs.{IsHeapMapper, RefusesRun}
-use Rattle.ng_group.specs.States.{IsWorking}
+use Rattle.ng_group.specs.States.{AreFollowed, IsWorking}
 use Rattle.ng_group.specs.Steps.{GoesOn, LeavesBelow}
 use Rattle.ng_group.proofs.RecursionLemmas.{Brings}
 
@@ -93,6 +93,7 @@ supplied start span span' live live' refused refused' l w s works view more maps
     nested = subst (λ (x : View). AreNested x.desk.groups x.desk.layout.nests) (sym view) works.stands.nested;
     carried = subst (λ (x : View). AreCarried x.desk.layout.nests l.parents) (sym view) works.stands.carried;
   };
+  followed = subst (λ (x : View). AreFollowed x.desk.active x.desk.counter l.rings l.counter) (sym view) works.followed;
   counted = maps.counted;
   leads = ap (λ (x : View). x.leads) view ∙ works.leads;
   bookless = ap (λ (x : View). x.books) view ∙ works.bookless;

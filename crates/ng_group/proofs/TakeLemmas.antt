@@ -6,9 +6,10 @@ use Rattle.ng_class.proofs.Slots.{room_of_slot}
 use Rattle.ng_mapper.specs.Runs as mapper
 use Rattle.ng_mapper.specs.Mapping.{Span}
 use Rattle.ng_mapper.specs.declared.refusals.Refusals.{Refusals}
-use Rattle.ng_lists.specs.Rings.{RingTable}
+use Rattle.ng_lists.specs.Rings.{RingTable, ring_of, rotated}
 use Rattle.ng_policy.specs.Bounce.{Bounces}
 use Rattle.ng_view.specs.Lists.{Among}
+use Rattle.ng_view.specs.LockSteps.{active_set}
 use Rattle.ng_view.specs.Places.{room, stride}
 use Rattle.ng_view.specs.Slots.{IsPlain}
 use Rattle.ng_view.specs.Steps.{in_motion}
@@ -31,7 +32,8 @@ use Rattle.ng_ledger.proofs.RingLemmas.{stock_alone, turn}
 use Rattle.ng_ledger.proofs.StepLemmas.{turned_changes, turned_first, turned_stays}
 use Rattle.ng_ledger.proofs.TableLemmas.{in_within, one_ring}
 use Rattle.ng_group.specs.Serving.{HasServed, OnlyRing, with_search}
-use Rattle.ng_group.specs.States.{State, Working}
+use Rattle.ng_group.specs.States.{State, Working, first_of}
+use Rattle.ng_group.proofs.WordLemmas.{followed_ring, set_search}
 use Rattle.ng_group.proofs.WorkingLemmas.{only_works}
 
 -- ---- what a plain group's slots serve
@@ -92,25 +94,29 @@ pub record Serves {M P : Type 0} (start : Start) (span : M → Span) (runs : M �
   pub only : OnlyRing class before after
   pub served : HasServed class bytes after.seat meta index
 
-pub serves : {M P : Type 0} (start : Start) (span : M → Span) (runs : M → List mapper.Run) (refused : M → Refusals) (s now : State M P) (class bytes meta index : ℕ) (w : View) (t : RingTable) (b : Bounces)
+pub serves : {M P : Type 0} (start : Start) (span : M → Span) (runs : M → List mapper.Run) (refused : M → Refusals) (s now : State M P) (class bytes meta index : ℕ) (w u : View) (t : RingTable) (b : Bounces)
     → s ≡ now → class < 48 → bytes + 4 ≤ 16 * units_of class → IsIn now.rings class meta → IsBare now.seat.desk.zero_avail now.rings class → now.seat.held ≡ []
-    → t ≡ turned s.rings class meta → IsTable t → TakesFreed s.seat meta index w → Working start span runs refused now
-    → Serves start span runs refused class bytes meta index now (record s { seat = w; rings = t; bounces = b })
-serves {M} {P} start span runs refused s now class bytes meta index w t b same known fits member bare idle turns is takes works =
-    subst (λ (t' : RingTable). Serves start span runs refused class bytes meta index now (record s { seat = w; rings = t'; bounces = b })) (sym turns)
+    → t ≡ turned s.rings class meta → IsTable t → TakesFreed s.seat meta index w → u ≡ active_set w class (first_of (ring_of t class))
+    → Working start span runs refused now → Serves start span runs refused class bytes meta index now (record s { seat = u; rings = t; bounces = b })
+serves {M} {P} start span runs refused s now class bytes meta index w u t b same known fits member bare idle turns is takes sets works =
+    subst (λ (x : View). Serves start span runs refused class bytes meta index now (record s { seat = x; rings = t; bounces = b })) (sym sets)
+    (subst (λ (t' : RingTable). Serves start span runs refused class bytes meta index now (record s { seat = active_set w class (first_of (ring_of t' class)); rings = t'; bounces = b })) (sym turns)
     (subst (λ (u : State M P). Serves start span runs refused class bytes meta index u after) same
     (at
     (subst IsTable turns is)
     (subst (λ (u : State M P). IsIn u.rings class meta) (sym same) member)
     (subst (λ (u : State M P). IsBare u.seat.desk.zero_avail u.rings class) (sym same) bare)
     (subst (λ (u : State M P). u.seat.held ≡ []) (sym same) idle)
-    (subst (λ (u : State M P). Working start span runs refused u) (sym same) works)))
+    (subst (λ (u : State M P). Working start span runs refused u) (sym same) works))))
   where
     t' : RingTable
     t' = turned s.rings class meta
 
+    word : ℕ
+    word = first_of (ring_of t' class)
+
     after : State M P
-    after = record s { seat = w; rings = t'; bounces = b }
+    after = record s { seat = active_set w class word; rings = t'; bounces = b }
 
     apart : IsTable t' → IsIn s.rings class meta → (k m : ℕ) → k ≢ class → IsIn s.rings k m → m ≢ meta
     apart is' in' k m other there same' = other (one_ring t' k class m is'
@@ -120,7 +126,7 @@ serves {M} {P} start span runs refused s now class bytes meta index w t b same k
     only : IsTable t' → IsIn s.rings class meta → OnlyRing class s after
     only is' in' = record {
       state = refl;
-      view = subst (λ (u : View). u ≡ with_search s.seat u) (sym takes.changes.view) refl;
+      view = set_search s.seat w class word (subst (λ (u : View). u ≡ with_search s.seat u) (sym takes.changes.view) refl);
       came = record { words = takes.changes.words; readings = ap (λ (u : View). u.readings) takes.changes.view };
       rings = (turned_changes s.rings class meta (in_within s.rings class meta in')).others;
       bare = λ k m below other there zero. takes.changes.zero_avail m (apart is' in' k m other there) zero;
@@ -133,7 +139,7 @@ serves {M} {P} start span runs refused s now class bytes meta index w t b same k
         (stock_alone s.seat.desk.groups s.seat.desk.listed s.seat.desk.zero_avail w.desk.zero_avail t' class meta is' (turned_first s.rings class meta in') takes.changes.zero_avail
         (turn s.seat.desk.groups s.seat.desk.listed s.seat.desk.zero_avail s.rings class meta in' bare' are))
 
-    served : IsOfClass s.seat.desk.groups meta class → s.seat.held ≡ [] → HasServed class bytes w meta index
+    served : IsOfClass s.seat.desk.groups meta class → s.seat.held ≡ [] → HasServed class bytes after.seat meta index
     served of idle' = record {
       group = of.group;
       there = subst (Among of.group) (sym (changes_groups s.seat w meta takes.changes)) of.there;
@@ -147,7 +153,8 @@ serves {M} {P} start span runs refused s now class bytes meta index w t b same k
     at : IsTable t' → IsIn s.rings class meta → IsBare s.seat.desk.zero_avail s.rings class → s.seat.held ≡ [] → Working start span runs refused s
         → Serves start span runs refused class bytes meta index s after
     at is' in' bare' idle' works' = record {
-      working = only_works start span runs refused class s after (only is' in') refl (ringed is' in' bare' works'.stands.ringed) works';
+      working = only_works start span runs refused class s after (only is' in') refl (ringed is' in' bare' works'.stands.ringed) works'
+          (followed_ring works'.followed w.desk.active t' class (rotated meta (ring_of s.rings class)) (ap (λ (u : View). u.desk.active) takes.changes.view) refl);
       only = only is' in';
       served = served (works'.stands.ringed.grouped class meta known in') idle';
     }

@@ -27,6 +27,7 @@ use Rattle.ng_group.specs.States.{State, Working, ledger_of}
 use Rattle.ng_group.proofs.FillingLemmas.{fills_some}
 use Rattle.ng_group.proofs.PlainLemmas.{plain_rest, plain_tight}
 use Rattle.ng_group.proofs.WholeLemmas.{groups_kept}
+use Rattle.ng_group.proofs.WordLemmas.{followed_same}
 use Rattle.ng_group.proofs.WorkingLemmas.{only_then, searched}
 
 -- ---- a step that searches alone
@@ -37,6 +38,7 @@ searched_works start span runs refused s w searches works =
     searched start (span s.mapper) (runs s.mapper) (refused s.mapper) (ledger_of s) w s.rings works searches.view refl
     (subst (λ ls. AreRinged s.seat.desk.groups ls w.desk.zero_avail s.rings) (sym searches.listed)
     (grow s.seat.desk.groups s.seat.desk.listed s.seat.desk.zero_avail w.desk.zero_avail s.rings searches.keeps works.stands.ringed))
+    (followed_same works.followed searches.active)
 
 pub searched_only : {M P : Type 0} (class : ℕ) (s : State M P) (w : View) → Searches s.seat w → OnlyRing class s (record s { seat = w })
 searched_only class s w searches = record {

@@ -59,6 +59,7 @@ module _ (v u w : View) (meta first second : ℕ) (has : HasGroup v meta) (loads
       readings = ap (λ (x : View). x.readings) both ∙ append_assoc v.readings ((meta + 28, first) ∷ []) ((meta + 24, second) ∷ []);
     };
     listed = ap (λ (x : View). x.desk.listed) both;
+    active = ap (λ (x : View). x.desk.active) both;
     keeps = λ m noted. subst (λ (x : View). Among m x.desk.zero_avail) (sym both) (among_if (eqb (second % 4294967296) 0) has.group.meta m v.desk.zero_avail noted);
   }
 
@@ -106,6 +107,7 @@ module _ (v w : View) (meta index last avail freed : ℕ) (few : last < 32) (has
       readings = ap (λ (x : View). x.readings) steps ∙ append_assoc v.readings ((meta + 24, captures.word) ∷ []) ((meta + 28, captures.takes.freed) ∷ []);
     };
     listed = ap (λ (x : View). x.desk.listed) steps;
+    active = ap (λ (x : View). x.desk.active) steps;
     keeps = λ m noted. subst (λ (x : View). Among m x.desk.zero_avail) (sym steps) (inr noted);
   }
 
@@ -214,6 +216,7 @@ module _ (v w : View) (meta index last avail freed : ℕ) (few : last < 32) (has
       view = changed_view w x meta puts.changes ∙ ap (λ (y : View). with_search y x) searched_all.view;
       came = came_then v w x searched_all.came (record { words = puts.changes.words; readings = ap (λ (y : View). y.readings) puts.changes.view });
       listed = changes_listed w x meta puts.changes ∙ searched_all.listed;
+      active = ap (λ (y : View). y.desk.active) puts.changes.view ∙ searched_all.active;
       keeps = keeps_back;
     }
 

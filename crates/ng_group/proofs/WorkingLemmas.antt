@@ -11,15 +11,15 @@ use Rattle.ng_view.specs.declared.view.View.{View}
 use Rattle.ng_ledger.specs.Rings.{AreRinged, IsIn}
 use Rattle.ng_ledger.specs.Standing.{KeepsHand, Ledger}
 use Rattle.ng_group.specs.Serving.{OnlyRing, with_search}
-use Rattle.ng_group.specs.States.{IsWorking, State, Working, ledger_of}
+use Rattle.ng_group.specs.States.{AreFollowed, IsWorking, State, Working, ledger_of}
 use Rattle.ng_group.specs.Steps.{Came, GoesOn, LeavesBelow}
 
 -- ---- a ring was searched
 pub searched : (start : Start) (span : Span) (live : List mapper.Run) (refused : Refusals) (l : Ledger) (w : View) (t : RingTable)
     → IsWorking start span live refused l → w ≡ with_search l.seat w → t.pages ≡ l.rings.pages
-    → AreRinged l.seat.desk.groups w.desk.listed w.desk.zero_avail t
+    → AreRinged l.seat.desk.groups w.desk.listed w.desk.zero_avail t → AreFollowed w.desk.active l.seat.desk.counter t l.counter
     → IsWorking start span live refused (record l { seat = w; rings = t })
-searched start span live refused l w t works view pages ringed =
+searched start span live refused l w t works view pages ringed followed =
     subst (λ (v : View). IsWorking start span live refused (record l { seat = v; rings = t })) (sym view) (record {
       space = record {
         lower = works.space.lower;
@@ -42,6 +42,7 @@ searched start span live refused l w t works view pages ringed =
         nested = works.stands.nested;
         carried = works.stands.carried;
       };
+      followed = followed;
       counted = works.counted;
       leads = works.leads;
       bookless = works.bookless;
@@ -139,7 +140,8 @@ only_hand class before after only =
 pub only_works : {M P : Type 0} (start : Start) (span : M → Span) (runs : M → List mapper.Run) (refused : M → Refusals) (class : ℕ) (before after : State M P)
     → OnlyRing class before after → after.rings.pages ≡ before.rings.pages
     → AreRinged before.seat.desk.groups after.seat.desk.listed after.seat.desk.zero_avail after.rings
-    → Working start span runs refused before → Working start span runs refused after
-only_works {M} {P} start span runs refused class before after only pages ringed works =
+    → Working start span runs refused before → AreFollowed after.seat.desk.active before.seat.desk.counter after.rings before.counter
+    → Working start span runs refused after
+only_works {M} {P} start span runs refused class before after only pages ringed works followed =
     subst (λ (s : State M P). Working start span runs refused s) (sym only.state)
-    (searched start (span before.mapper) (runs before.mapper) (refused before.mapper) (ledger_of before) after.seat after.rings works only.view pages ringed)
+    (searched start (span before.mapper) (runs before.mapper) (refused before.mapper) (ledger_of before) after.seat after.rings works only.view pages ringed followed)

@@ -15,16 +15,18 @@ use Rattle.ng_ledger.specs.Rings.{IsIn, left}
 use Rattle.ng_ledger.specs.Usage.{AreUsed}
 use Rattle.ng_serve.specs.Takes.{StocksInUse}
 use Rattle.ng_serve.specs.declared.group.LiveGroup.{LiveGroup}
-use Rattle.ng_group.specs.States.{State}
+use Rattle.ng_group.specs.States.{State, with_active}
 
--- the group left its ring, as was noted by its freed mask: nothing else changed
+-- the group left its ring, as was noted by its freed mask, and the active word of the class followed: nothing else changed
 pub record Unlists {M P : Type 0} (class meta : ℕ) (before after : State M P) : Type 0 where
   pub member : IsIn before.rings class meta
   pub mask : ℕ
-  pub state : after ≡ record before {
-    seat = read (ring_read before.seat meta false mask) (meta + 28) mask;
-    rings = left before.rings class meta;
-  }
+  pub state : after ≡ with_active
+      (record before {
+        seat = read (ring_read before.seat meta false mask) (meta + 28) mask;
+        rings = left before.rings class meta;
+      })
+      class
 
 -- the freed slots in use of a ring's first group, if there is one, became available: nothing else changed
 abbrev pub StocksFirst : {M P : Type 0} → ℕ → State M P → State M P → Type 0

@@ -13,11 +13,13 @@ use Rattle.ng_group.specs.Steps.{Came}
 abbrev pub AreSlots : ℕ → ℕ → Type 0
 AreSlots mask last = (i : ℕ) → bit_at mask i ≡ 1 → i ≤ last
 
--- slots may have come and gone, words were read, and the same groups are listed; what was noted of avail masks still is
+-- slots may have come and gone, words were read, the same groups are listed, and the active words are the same; what was noted of
+-- avail masks still is
 pub record Searches (v w : View) : Type 0 where
   pub view : w ≡ with_search v w
   pub came : Came v w
   pub listed : w.desk.listed ≡ v.desk.listed
+  pub active : w.desk.active ≡ v.desk.active
   pub keeps : (m : ℕ) → Among m v.desk.zero_avail → Among m w.desk.zero_avail
 
 -- both masks of a live group were read. Their bits are of the group's slots, and a group with some bit serves

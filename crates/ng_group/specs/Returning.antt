@@ -23,7 +23,7 @@ use Rattle.ng_ledger.specs.Metas.{IsBlankMeta}
 use Rattle.ng_ledger.specs.Rings.{entered}
 use Rattle.ng_ledger.specs.Standing.{InHand, Ledger}
 use Rattle.ng_group.specs.Ending.{Ends}
-use Rattle.ng_group.specs.States.{State}
+use Rattle.ng_group.specs.States.{State, with_active}
 
 -- one slot is in the seat, without a block: that of an index in a live group
 pub record HasReturned (v : View) (meta index : ℕ) : Type 0 where
@@ -86,13 +86,16 @@ pub record CapturesAll (v : View) (meta index last : ℕ) (answer : Bool) (after
   pub whole : answer ≡ true → after ≡ between
   pub back : answer ≡ false → SetsCaptured between meta avail freed index after × Among meta v.desk.listed
 
--- the group is in its ring; or it came last into it, as was noted by its freed mask. Nothing else changed
+-- the group is in its ring; or it came last into it, as was noted by its freed mask, and the active word of the class followed.
+-- Nothing else changed
 abbrev pub Enlists : {M P : Type 0} → ℕ → ℕ → State M P → State M P → Type 0
 Enlists class meta before after = (IsListed before.rings meta × (after ≡ before))
-    ⊎ ((¬ IsListed before.rings meta) × ((mask : ℕ) × (after ≡ record before {
+    ⊎ ((¬ IsListed before.rings meta) × ((mask : ℕ) × (after ≡ with_active
+    (record before {
       seat = read (ring_read before.seat meta true mask) (meta + 28) mask;
       rings = entered before.rings class meta;
-    })))
+    })
+    class)))
 
 -- the group is in its ring, and then the bit of the slot was set in freed. Nothing else changed
 pub record GoesBack {M P : Type 0} (class meta index : ℕ) (before after : State M P) : Type 0 where

@@ -22,7 +22,8 @@ pub record HasServed (class bytes : ℕ) (v : View) (meta index : ℕ) : Type 0 
   pub motion : v.held ≡ in_motion group index ∷ []
   pub roomy : bytes + 4 ≤ room group
 
--- the view with what may change while a ring is searched: the slots, what is listed, the notes of masks, the readings
+-- the view with what may change while a ring is searched: the slots, what is listed, the notes of masks, the active words, the
+-- readings
 abbrev pub with_search : View → View → View
 with_search v w = record v {
   held = w.held;
@@ -32,11 +33,12 @@ with_search v w = record v {
     zero_avail = w.desk.zero_avail;
     zero_freed = w.desk.zero_freed;
     set_freed = w.desk.set_freed;
+    active = w.desk.active;
   };
 }
 
--- only the ring of a class has changed, what the seat knows of masks, its slots, and the bounces; what was noted of the
--- avail masks of other rings still is
+-- only the ring of a class has changed, the active words, what the seat knows of masks, its slots, and the bounces; what was
+-- noted of the avail masks of other rings still is
 pub record OnlyRing {M P : Type 0} (class : ℕ) (before after : State M P) : Type 0 where
   pub state : after ≡ record before { seat = after.seat; rings = after.rings; bounces = after.bounces }
   pub view : after.seat ≡ with_search before.seat after.seat

@@ -1,12 +1,13 @@
 -- What contracts see of a core, and what holds of it.
-use Rattle.std.specs.Prelude.{◌≡◌, ℕ, ◌≤◌, true, [], List}
-use Rattle.ng_lists.specs.Rings.{RingTable}
+use Rattle.std.specs.Prelude.{◌≡◌, ℕ, ◌%◌, ◌≤◌, ◌^◌, true, [], List, map, slice_index}
+use Rattle.ng_lists.specs.Rings.{RingTable, ring_of}
 use Rattle.ng_mapper.specs.Mapping.{Span}
 use Rattle.ng_mapper.specs.Runs as mapper
 use Rattle.ng_mapper.specs.declared.refusals.Refusals.{Refusals}
 use Rattle.ng_policy.specs.Bounce.{Bounces}
 use Rattle.ng_shelf.specs.Parents.{ParentTable}
 use Rattle.ng_shelf.specs.Stock.{Stock}
+use Rattle.ng_view.specs.LockSteps.{active_set}
 use Rattle.ng_view.specs.declared.view.Start.{Start}
 use Rattle.ng_view.specs.declared.view.View.{View}
 use Rattle.ng_ledger.specs.Standing.{InHand, IsOneSpace, Ledger, Stands}
@@ -32,13 +33,29 @@ ledger_of s = record {
   stock = s.stock;
   parents = s.parents;
   usage = s.usage;
+  counter = s.counter;
 }
 
+-- the first meta of a ring, or 0 where there is none
+abbrev pub first_of : List ℕ → ℕ
+first_of ring = slice_index ring 0
+
+-- the words of page 0 follow the core: the active word of each class is the first meta of its ring, or 0, and the counter's
+-- word has the low 32 bits of the counter
+pub record AreFollowed (active : List ℕ) (word : ℕ) (table : RingTable) (counter : ℕ) : Type 0 where
+  pub firsts : active ≡ map first_of table.rings
+  pub low : word ≡ counter % 2 ^ 32
+
+-- the core once the active word of a class has followed its ring
+abbrev pub with_active : {M P : Type 0} → State M P → ℕ → State M P
+with_active s class = record s { seat = active_set s.seat class (first_of (ring_of s.rings class)) }
+
 -- what holds whenever a call runs: the mapper and the tables are those of the space, the books agree with the seat and
--- the mapper, and no number above the mapper's refusals was noted
+-- the mapper, the words of page 0 follow them, and no number above the mapper's refusals was noted
 pub record IsWorking (start : Start) (span : Span) (live : List mapper.Run) (refused : Refusals) (l : Ledger) : Type 0 where
   pub space : IsOneSpace start span l
   pub stands : Stands start live l
+  pub followed : AreFollowed l.seat.desk.active l.seat.desk.counter l.rings l.counter
   pub counted : l.seat.desk.refusals ≤ refused.count
   pub leads : l.seat.leads ≡ true
   pub bookless : l.seat.books ≡ []

@@ -7,6 +7,7 @@ ghost use Rattle.ng_policy.specs.Bounce.{accounted, stepped};
 ghost use Rattle.ng_ledger.specs.Rings.{IsBare, entered_first};
 ghost use Rattle.ng_ledger.specs.Standing.{KeepsHand};
 ghost use Rattle.ng_lists.specs.Rings.{IsListed};
+ghost use Rattle.ng_view.specs.LockSteps.{active_set};
 ghost use Rattle.ng_view.specs.Notes.{plain_run};
 ghost use Rattle.ng_shelf.specs.Shape.{IsNestedSize, shape_of};
 ghost use Rattle.ng_group.specs.Building.{HasBuilt, HasInHand, IsCarriedBy, LeavesAll, with_used};
@@ -14,6 +15,7 @@ ghost use Rattle.ng_group.specs.Serving.{HasServed};
 ghost use Rattle.ng_group.specs.States.{Working, ledger_of};
 ghost use Rattle.ng_group.specs.Steps.{GoesOn, HandsOver, IsCalm, IsRefused, LeavesBelow};
 
+use crate::words::count_run;
 use crate::works::Works;
 use ng_build::{Carrier, Draft, publish_run, publish_slot};
 use ng_class::{slot_start, stride};
@@ -70,7 +72,7 @@ impl<N: Name, M: Mapper, P: Rules> Works<N, M, P> {
         self.bounce.step();
         let shape = run_shape(ask, bytes, count);
         let base = map_run(space, &mut self.seat, &mut self.mapper, shape.pages)?;
-        self.counter = self.counter.wrapping_add(1);
+        count_run(space, &mut self.seat, &mut self.counter);
         let draft = Draft {
             meta,
             base,
@@ -80,7 +82,7 @@ impl<N: Name, M: Mapper, P: Rules> Works<N, M, P> {
             active: first_active(class, shape.count),
         };
         publish_run(space, &mut self.seat, &draft);
-        self.enter_first(class, meta, shape.count);
+        self.enter_first(space, class, meta, shape.count);
         Ok(())
     }
 
@@ -135,16 +137,19 @@ impl<N: Name, M: Mapper, P: Rules> Works<N, M, P> {
         };
         publish_slot(space, &mut self.seat, &draft, &carrier);
         self.parents.set(meta, parent, index);
-        self.enter_first(class, meta, count);
+        self.enter_first(space, class, meta, count);
     }
 
-    // The meta of a new group comes into the ring of its class, as the first, and the group's slots are counted.
-    fn enter_first(&mut self, class: u32, meta: u64, slots: u32)
+    // The meta of a new group comes into the ring of its class, as the first, and into the active word; and the group's
+    // slots are counted.
+    fn enter_first(&mut self, space: &Space<N>, class: u32, meta: u64, slots: u32)
         requires class { class < 48 }
-        requires place { IsMetaPlace meta self.old.rings.pages }
+        requires place { IsMetaPlace meta N.facts.start.pages }
+        requires pages { self.old.rings.pages ≡ N.facts.start.pages }
         requires absent { ¬ IsListed self.old.rings meta }
         requires few { slice_index self.old.usage class + slots < 2 ^ 64 }
         ensures { self.new ≡ record self.old {
+          seat = active_set self.old.seat class meta;
           rings = entered_first self.old.rings class meta;
           usage = with_used self.old.usage class slots;
         } }
@@ -154,5 +159,6 @@ impl<N: Name, M: Mapper, P: Rules> Works<N, M, P> {
         usage[class as usize] += u64::from(slots);
         self.rings.enqueue(class, meta);
         self.rings.rotate(class, meta);
+        space.set_active(&mut self.seat, class, meta);
     }
 }

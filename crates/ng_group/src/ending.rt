@@ -12,6 +12,7 @@ ghost use Rattle.ng_group.specs.Serving.{OnlyRing};
 ghost use Rattle.ng_group.specs.States.{Working, ledger_of};
 ghost use Rattle.ng_group.specs.Steps.{GoesOn, IsCalm};
 
+use crate::words::{first_word, follow};
 use crate::works::Works;
 use ng_build::{clear_head, clear_meta, drop_run};
 use ng_class::LONE;
@@ -123,7 +124,7 @@ impl<N: Name, M: Mapper, P: Rules> Works<N, M, P> {
         }
     }
 
-    // Takes a group out of its ring, and notes so. Its slots are all in the seat.
+    // Takes a group out of its ring, and notes so; the active word follows. Its slots are all in the seat.
     fn unlist(&mut self, space: &Space<N>, meta: u64, class: u32)
         requires working { Working N.facts.start M.span M.runs M.refused self.old }
         requires whole { HasWhole self.old.seat meta }
@@ -139,6 +140,8 @@ impl<N: Name, M: Mapper, P: Rules> Works<N, M, P> {
     {
         self.rings.stand_once();
         space.note_ring(&mut self.seat, meta, false);
+        let was = first_word(&self.rings, class);
         self.rings.dequeue(class, meta);
+        follow(space, &mut self.seat, &self.rings, class, was);
     }
 }

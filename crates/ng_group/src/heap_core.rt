@@ -30,8 +30,10 @@ use std::marker::Model;
 ///
 /// Between two calls no slot is in motion; the noted runs are the mapper's live ones, and each is an area or the run of a
 /// live group; the metas of the rings are the listed ones, and those after a ring's first have avail noted as 0; and the
-/// free metas are those of the areas without a live group, and known to be 0. No refused map call asked for more pages than
-/// one had before, than a group of slots has, or than the largest block that is asked for needs.
+/// free metas are those of the areas without a live group, and known to be 0. The active word of each class, in page 0, is the
+/// first meta of its ring, or 0 where the ring is empty, and the counter's word there has the low 32 bits of the counter. No
+/// refused map call asked for more pages than one had before, than a group of slots has, or than the largest block that is
+/// asked for needs.
 #[derive(Drop)]
 pub struct Core<N: Name, M: Mapper, P: Rules> {
     pub(crate) works: Works<N, M, P>,

@@ -10,6 +10,7 @@ mod lone;
 mod returning;
 mod serving;
 mod tables;
+mod words;
 mod works;
 
 pub use heap_core::Core;

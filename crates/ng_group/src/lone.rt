@@ -10,6 +10,7 @@ ghost use Rattle.ng_group.specs.Building.{HasInHand, LeavesAll};
 ghost use Rattle.ng_group.specs.Lone.{BuildsAlone, BuildsLone, IsLoneRefused};
 ghost use Rattle.ng_terms.specs.Accounts.{pages_for};
 
+use crate::words::count_run;
 use crate::works::Works;
 use ng_build::{Draft, publish_run};
 use ng_class::{IB, LONE, UNIT};
@@ -76,7 +77,7 @@ impl<N: Name, M: Mapper, P: Rules> Works<N, M, P> {
         self.bounce.step();
         let pages = (bytes + UNIT + IB).div_ceil(PAGE_BYTES);
         let base = map_run(space, &mut self.seat, &mut self.mapper, pages)?;
-        self.counter = self.counter.wrapping_add(1);
+        count_run(space, &mut self.seat, &mut self.counter);
         let draft = Draft {
             meta,
             base,

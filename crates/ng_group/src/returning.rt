@@ -18,6 +18,7 @@ ghost use Rattle.ng_group.specs.Serving.{OnlyRing};
 ghost use Rattle.ng_group.specs.States.{Working, ledger_of};
 ghost use Rattle.ng_group.specs.Steps.{GoesOn, IsCalm};
 
+use crate::words::{first_word, follow};
 use crate::works::Works;
 use ng_class::{LONE, UNIT, all_bits, stride, units};
 use ng_mapper::Mapper;
@@ -160,7 +161,9 @@ impl<N: Name, M: Mapper, P: Rules> Works<N, M, P> {
             return;
         }
         space.note_ring(&mut self.seat, meta, true);
+        let was = first_word(&self.rings, class);
         self.rings.enqueue(class, meta);
+        follow(space, &mut self.seat, &self.rings, class, was);
     }
 }
 

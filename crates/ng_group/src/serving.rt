@@ -13,6 +13,7 @@ ghost use Rattle.ng_group.specs.Serving.{FindsNoFreed, FindsNoSlot, HasServed, I
 ghost use Rattle.ng_group.specs.States.{Working, ledger_of};
 ghost use Rattle.ng_group.specs.Steps.{GoesOn, IsCalm, IsRefused, LeavesBelow};
 
+use crate::words::{first_word, follow};
 use crate::works::Works;
 use ng_class::{UNIT, class_of, units};
 use ng_mapper::Mapper;
@@ -141,6 +142,7 @@ impl<N: Name, M: Mapper, P: Rules> Works<N, M, P> {
             return Some(self.rings.next(first));
         }
         self.rings.dequeue(class, first);
+        follow(space, &mut self.seat, &self.rings, class, first);
         self.rings.first(class)
     }
 
@@ -159,11 +161,13 @@ impl<N: Name, M: Mapper, P: Rules> Works<N, M, P> {
         ensures decays { self.new.bounces ≡ decayed self.old.bounces class }
     {
         let Choice { meta, lowest } = choice;
+        let was = first_word(&self.rings, class);
         self.rings.rotate(class, meta);
         self.rings.stand_once();
         let group = group_of(space, &mut self.seat, meta);
         let active = activate(space, &mut self.seat, &group, lowest);
         let index = take_freed(space, &mut self.seat, meta, active);
+        follow(space, &mut self.seat, &self.rings, class, was);
         self.bounce.decay(class);
         (meta, index)
     }

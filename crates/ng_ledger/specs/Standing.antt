@@ -15,14 +15,15 @@ use Rattle.ng_ledger.specs.Rings.{AreRinged}
 use Rattle.ng_ledger.specs.Runs.{AreFounded, AreMapped, AreServed}
 use Rattle.ng_ledger.specs.Usage.{AreUsed}
 
--- what the owner of the lock keeps: the view of its seat, the rings, the free metas, the table of carrying slots, and
--- the slots in live groups by class
+-- what the owner of the lock keeps: the view of its seat, the rings, the free metas, the table of carrying slots, the
+-- slots in live groups by class, and the counter of runs mapped for groups
 pub record Ledger : Type 0 where
   pub seat : View
   pub rings : RingTable
   pub stock : Stock
   pub parents : ParentTable
   pub usage : List ℕ
+  pub counter : ℕ
 
 -- the bounds of the mapper, and the pages of the tables, are the start's
 pub record IsOneSpace (start : Start) (span : Span) (l : Ledger) : Type 0 where

@@ -7,7 +7,7 @@ use Rattle.ng_group.specs.Serving.{HasServed}
 use Rattle.ng_group.specs.States.{IsWorking, State, ledger_of}
 use Rattle.ng_group.specs.Steps.{HandsOver, LeavesBelow}
 use Rattle.ng_group.proofs.BuildingLemmas.{few_used, on_err, roomy, shaped_group}
-use Rattle.ng_group.proofs.MappingLemmas.{ComesOnRun, absent, below_mapped, group_in_space, groups_mapped, hand_mapped, may_build, meta_outside, meta_ready, motion_mapped, noted_refused, run_ready, served_mapped, view_refused, working_mapped, working_refused}
+use Rattle.ng_group.proofs.MappingLemmas.{ComesOnRun, absent, below_counted, below_mapped, counted_up, counted_works, group_in_space, groups_mapped, hand_mapped, mapped_counted, maps_counted, may_build, meta_outside, meta_ready, motion_mapped, noted_refused, over_counted, run_ready, served_mapped, view_refused, working_mapped, working_refused}
 use Rattle.ng_group.proofs.works.Works.build_mapped.Given.{Over}
 use Rattle.ng_group.proofs.works.Works.build_mapped.Goals as goal
 
@@ -25,17 +25,17 @@ returns-in_err-base-clause-left g c =
 pub publish_run-requires-clause-meta : goal.publish_run-requires-clause-meta
 publish_run-requires-clause-meta g c =
     let may = may_build g.N.Name.facts.start g.M.Mapper.span g.M.Mapper.runs g.M.Mapper.refused c.args.ask.now.class c.args.meta c.self.view_is c.requires.working c.requires.meta c.requires.bare in
-    meta_ready c.in_ok-base.ensures.ok may.hand.free
+    meta_ready (maps_counted c.count_run.new.counter c.in_ok-base.ensures.ok c.count_run.ensures.word) may.hand.free
 
 pub publish_run-requires-clause-run : goal.publish_run-requires-clause-run
 publish_run-requires-clause-run g c =
     let may = may_build g.N.Name.facts.start g.M.Mapper.span g.M.Mapper.runs g.M.Mapper.refused c.args.ask.now.class c.args.meta c.self.view_is c.requires.working c.requires.meta c.requires.bare in
-    run_ready c.in_ok-base.ensures.ok may.hand.free
+    run_ready (maps_counted c.count_run.new.counter c.in_ok-base.ensures.ok c.count_run.ensures.word) may.hand.free
 
 pub publish_run-requires-clause-apart : goal.publish_run-requires-clause-apart
 publish_run-requires-clause-apart g c =
     let may = may_build g.N.Name.facts.start g.M.Mapper.span g.M.Mapper.runs g.M.Mapper.refused c.args.ask.now.class c.args.meta c.self.view_is c.requires.working c.requires.meta c.requires.bare in
-    meta_outside c.in_ok-base.ensures.ok may.hand.free (g.M.Mapper.span c.map_run.new.mapper) (g.M.Mapper.runs c.map_run.new.mapper) (g.met.M.Mapper.laid c.map_run.new.mapper) c.in_ok-base.ensures.mapper.mapped
+    meta_outside (maps_counted c.count_run.new.counter c.in_ok-base.ensures.ok c.count_run.ensures.word) may.hand.free (g.M.Mapper.span c.map_run.new.mapper) (g.M.Mapper.runs c.map_run.new.mapper) (g.met.M.Mapper.laid c.map_run.new.mapper) (mapped_counted c.map_run.new.seat c.count_run.new.seat c.in_ok-base.ensures.mapper.mapped c.count_run.ensures.word)
 
 pub publish_run-requires-clause-shape : goal.publish_run-requires-clause-shape
 publish_run-requires-clause-shape g c = inl (let shape = c.run_shape-shape in shaped_group c.args.ask.now c.args.bytes c.args.count c.args.meta c.in_ok-base.base shape.result c.requires.class.class c.requires.bytes c.requires.large shape.ensures.shape shape.ensures.slots shape.ensures.some shape.ensures.fits)
@@ -51,14 +51,14 @@ enter_first-requires-clause-few g c =
     let may = may_build g.N.Name.facts.start g.M.Mapper.span g.M.Mapper.runs g.M.Mapper.refused c.args.ask.now.class c.args.meta c.self.view_is c.requires.working c.requires.meta c.requires.bare in
     few_used c.args.ask.now.class c.run_shape-shape.result.count may.working.stands c.args.space.now.range.addressed c.requires.class.class c.run_shape-shape.ensures.slots.most
 
--- the group that came, and the books before it
+-- the group that came, and the books before it, with the counter as it was and as it is
 abbrev group : (g : Over) (c : goal.After-enter_first g) → Group
 group g c = record { meta = c.args.meta; base = c.in_ok-base.base; tag = c.args.ask.now.class + 1; last = c.run_shape-shape.result.count - 1; maplen = c.run_shape-shape.result.pages }
 
 abbrev before : (g : Over) (c : goal.After-enter_first g) → Ledger
-before g c = record { seat = c.self.inside.seat; rings = c.self.inside.rings; stock = c.self.inside.stock; parents = c.self.inside.parents; usage = c.self.inside.usage }
+before g c = record { seat = c.self.inside.seat; rings = c.self.inside.rings; stock = c.self.inside.stock; parents = c.self.inside.parents; usage = c.self.inside.usage; counter = c.self.inside.counter }
 
-comes : (g : Over) (c : goal.After-enter_first g) → ComesOnRun g.N.Name.facts.start (g.M.Mapper.span c.self.inside.mapper) (g.M.Mapper.span c.map_run.new.mapper) (g.M.Mapper.runs c.self.inside.mapper) (g.M.Mapper.runs c.map_run.new.mapper) (g.M.Mapper.refused c.self.inside.mapper) (g.M.Mapper.refused c.map_run.new.mapper) (before g c) (group g c) c.args.ask.now.class c.run_shape-shape.result.count c.first_active.result c.map_run.new.seat c.publish_run.new.seat
+comes : (g : Over) (c : goal.After-enter_first g) → ComesOnRun g.N.Name.facts.start (g.M.Mapper.span c.self.inside.mapper) (g.M.Mapper.span c.map_run.new.mapper) (g.M.Mapper.runs c.self.inside.mapper) (g.M.Mapper.runs c.map_run.new.mapper) (g.M.Mapper.refused c.self.inside.mapper) (g.M.Mapper.refused c.map_run.new.mapper) (counted_up (before g c) c.count_run.new.counter) (group g c) c.args.ask.now.class c.run_shape-shape.result.count c.first_active.result c.count_run.new.seat c.publish_run.new.seat
 comes g c =
     let may = may_build g.N.Name.facts.start g.M.Mapper.span g.M.Mapper.runs g.M.Mapper.refused c.args.ask.now.class c.args.meta c.self.view_is c.requires.working c.requires.meta c.requires.bare in
     let stand = c.stand_once.ensures in
@@ -68,13 +68,13 @@ comes g c =
     let most : c.run_shape-shape.result.count ≤ 32 = shape.slots.most in
     let pages : c.run_shape-shape.result.pages ≤ 256 = shape.most in
     record {
-      working = may.working;
+      working = counted_works c.count_run.new.counter may.working;
       constant = told.constant;
       calm = told.calm;
       bounded = g.met.M.Mapper.bounded c.map_run.new.mapper;
       laid = g.met.M.Mapper.laid c.map_run.new.mapper;
-      mapped = told.mapper.mapped;
-      note = told.ok.note;
+      mapped = mapped_counted c.map_run.new.seat c.count_run.new.seat told.mapper.mapped c.count_run.ensures.word;
+      note = (maps_counted c.count_run.new.counter told.ok c.count_run.ensures.word).note;
       publishes = c.publish_run.ensures;
       table = record { classes = stand.classes; places = stand.places; once = stand.once; apart = stand.apart };
       known = c.requires.class.class;
@@ -94,12 +94,12 @@ returns-clause-working g c =
 pub returns-clause-below : goal.returns-clause-below
 returns-clause-below g c =
     subst (λ (s : State g.row.M.Denot g.row.P.Denot). LeavesBelow c.args.ask.now.class (ledger_of s) (ledger_of c.enter_first.new.self)) c.self.view_is
-    (subst (λ (s : State g.row.M.Denot g.row.P.Denot). LeavesBelow c.args.ask.now.class (before g c) (ledger_of s)) (sym c.enter_first.ensures) (below_mapped (comes g c)))
+    (subst (λ (s : State g.row.M.Denot g.row.P.Denot). LeavesBelow c.args.ask.now.class (before g c) (ledger_of s)) (sym c.enter_first.ensures) (below_counted c.count_run.new.counter (below_mapped (comes g c))))
 
 pub returns-clause-hand : goal.returns-clause-hand
 returns-clause-hand g c =
     subst (λ (s : State g.row.M.Denot g.row.P.Denot). HandsOver c.args.meta (ledger_of s) (ledger_of c.enter_first.new.self)) c.self.view_is
-    (subst (λ (s : State g.row.M.Denot g.row.P.Denot). HandsOver c.args.meta (before g c) (ledger_of s)) (sym c.enter_first.ensures) (hand_mapped (comes g c)))
+    (subst (λ (s : State g.row.M.Denot g.row.P.Denot). HandsOver c.args.meta (before g c) (ledger_of s)) (sym c.enter_first.ensures) (over_counted c.count_run.new.counter (hand_mapped (comes g c))))
 
 pub returns-clause-built : goal.returns-clause-built
 returns-clause-built g c =
@@ -124,4 +124,5 @@ returns-clause-served g c =
 pub returns-clause-counted : goal.returns-clause-counted
 returns-clause-counted g c =
     ap (λ (s : State g.row.M.Denot g.row.P.Denot). s.counter) c.enter_first.ensures
+    ∙ c.count_run.ensures.counted
     ∙ ap (λ (s : State g.row.M.Denot g.row.P.Denot). (s.counter + 1) % 2 ^ 64) c.self.view_is

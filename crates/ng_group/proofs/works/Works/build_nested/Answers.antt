@@ -71,7 +71,7 @@ abbrev group : (g : Over) (c : goal.After-enter_first g) → Group
 group g c = record { meta = c.args.meta; base = c.slot_start.result; tag = c.args.class + 1; last = c.args.count - 1; maplen = 0 }
 
 abbrev before : (g : Over) (c : goal.After-enter_first g) → Ledger
-before g c = record { seat = c.self.inside.seat; rings = c.self.inside.rings; stock = c.self.inside.stock; parents = c.self.inside.parents; usage = c.self.inside.usage }
+before g c = record { seat = c.self.inside.seat; rings = c.self.inside.rings; stock = c.self.inside.stock; parents = c.self.inside.parents; usage = c.self.inside.usage; counter = c.self.inside.counter }
 
 may : (g : Over) (c : goal.After-enter_first g) → MayNest g.N.Name.facts.start (g.M.Mapper.span c.self.inside.mapper) (g.M.Mapper.runs c.self.inside.mapper) (g.M.Mapper.refused c.self.inside.mapper) (before g c) c.args.class c.args.count c.args.slot.0 c.args.slot.1 c.args.meta c.requires.slot.0
 may g c = may_nest g.N.Name.facts.start g.M.Mapper.span g.M.Mapper.runs g.M.Mapper.refused c.args.class c.args.count c.args.slot.0 c.args.slot.1 c.args.meta c.requires.slot.0 c.self.view_is c.requires.working c.requires.meta c.requires.bare c.requires.slot.3

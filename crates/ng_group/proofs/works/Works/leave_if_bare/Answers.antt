@@ -1,10 +1,12 @@
-use Rattle.std.proofs.Common.{ℕ, [], ◌<◌, length, sym, subst, arith}
-use Rattle.ng_lists.specs.Rings.{ring_of}
+use Rattle.std.proofs.Common.{ℕ, [], ◌<◌, length, sym, ap, ◌∙◌, subst, arith}
+use Rattle.ng_lists.specs.Rings.{RingTable, ring_of}
 use Rattle.ng_lists.proofs.MemberLemmas.{Contains-first, Contains-next_in}
 use Rattle.ng_ledger.specs.Rings.{IsIn, IsTable}
 use Rattle.ng_ledger.proofs.TableLemmas.{in_listed}
+use Rattle.ng_group.specs.States.{State, first_of}
 use Rattle.ng_group.proofs.FirstLemmas.{first_leaves, first_stays, some_first}
-use Rattle.ng_group.proofs.ServingLemmas.{in_at, live_at}
+use Rattle.ng_group.proofs.ServingLemmas.{in_at, live_at, noted_active}
+use Rattle.ng_group.proofs.WordLemmas.{first_word, word_pages, word_was}
 use Rattle.ng_group.proofs.works.Works.leave_if_bare.Given.{Over}
 use Rattle.ng_group.proofs.works.Works.leave_if_bare.Goals.{After-first}
 use Rattle.ng_group.proofs.works.Works.leave_if_bare.Goals as goal
@@ -48,11 +50,25 @@ table g c = record {
 
 pub returns-clause-working : goal.returns-clause-working
 returns-clause-working g c =
-    (first_leaves g.N.Name.facts.start g.M.Mapper.span g.M.Mapper.runs g.M.Mapper.refused _ _ c.args.class c.args.first c.note_ring.result c.note_ring.new.seat c.dequeue.new.self c.self.view_is (table g c) c.requires.class c.requires.first c.requires.bare c.if-note_ring-ne0.false c.note_ring.ensures c.dequeue.ensures.removed c.requires.working).working
+    (first_leaves g.N.Name.facts.start g.M.Mapper.span g.M.Mapper.runs g.M.Mapper.refused _ _ c.args.class c.args.first c.note_ring.result c.note_ring.new.seat c.follow.new.seat c.dequeue.new.self c.self.view_is (table g c) c.requires.class c.requires.first c.requires.bare c.if-note_ring-ne0.false c.note_ring.ensures c.dequeue.ensures.removed c.follow.ensures c.requires.working).working
 
 pub returns-clause-walk : goal.returns-clause-walk
 returns-clause-walk g c =
-    (first_leaves g.N.Name.facts.start g.M.Mapper.span g.M.Mapper.runs g.M.Mapper.refused _ _ c.args.class c.args.first c.note_ring.result c.note_ring.new.seat c.dequeue.new.self c.self.view_is (table g c) c.requires.class c.requires.first c.requires.bare c.if-note_ring-ne0.false c.note_ring.ensures c.dequeue.ensures.removed c.requires.working).walk
+    (first_leaves g.N.Name.facts.start g.M.Mapper.span g.M.Mapper.runs g.M.Mapper.refused _ _ c.args.class c.args.first c.note_ring.result c.note_ring.new.seat c.follow.new.seat c.dequeue.new.self c.self.view_is (table g c) c.requires.class c.requires.first c.requires.bare c.if-note_ring-ne0.false c.note_ring.ensures c.dequeue.ensures.removed c.follow.ensures c.requires.working).walk
 
 pub returns-clause-start : goal.returns-clause-start
 returns-clause-start g c = some_first c.first.result (ring_of c.dequeue.new.self c.args.class) c.first.ensures.first
+
+pub returns-clause-only : goal.returns-clause-only
+returns-clause-only g c =
+    (first_leaves g.N.Name.facts.start g.M.Mapper.span g.M.Mapper.runs g.M.Mapper.refused _ _ c.args.class c.args.first c.note_ring.result c.note_ring.new.seat c.follow.new.seat c.dequeue.new.self c.self.view_is (table g c) c.requires.class c.requires.first c.requires.bare c.if-note_ring-ne0.false c.note_ring.ensures c.dequeue.ensures.removed c.follow.ensures c.requires.working).only
+
+pub follow-requires-clause-pages : goal.follow-requires-clause-pages
+follow-requires-clause-pages g c =
+    word_pages g.N.Name.facts.start g.M.Mapper.span g.M.Mapper.runs g.M.Mapper.refused c.self.view_is c.requires.working c.dequeue.new.self (ap (λ (t : RingTable). t.pages) c.dequeue.ensures.removed)
+
+pub follow-requires-clause-was : goal.follow-requires-clause-was
+follow-requires-clause-was g c =
+    word_was g.N.Name.facts.start g.M.Mapper.span g.M.Mapper.runs g.M.Mapper.refused c.self.view_is c.requires.working c.note_ring.new.seat c.args.class c.args.first
+    (sym (first_word (ring_of c.args.self.now.rings c.args.class) c.args.first c.requires.first) ∙ ap (λ (s : State g.row.M.Denot g.row.P.Denot). first_of (ring_of s.rings c.args.class)) (sym c.self.view_is))
+    (noted_active c.self.inside.seat c.note_ring.new.seat c.args.first c.note_ring.result c.note_ring.ensures)

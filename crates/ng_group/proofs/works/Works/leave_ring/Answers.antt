@@ -45,7 +45,7 @@ returns-in-Some-clause-working g c =
     let table : IsTable c.self-2.inside.rings = record { classes = c.stand_once.ensures.classes; places = c.stand_once.ensures.places; once = c.stand_once.ensures.once; apart = c.stand_once.ensures.apart } in
     let first : slice_get (ring_of c.self-2.inside.rings c.args.class) 0 ≡ Some c.in-Some.next = sym c.first-then-was_first.ensures.first ∙ c.in-Some.is in
     stocked_works c.self-2.inside.seat c.stock_freed.new.seat c.in-Some.next c.stock_freed.ensures g.N.Name.facts.start (g.M.Mapper.span c.self-2.inside.mapper) (g.M.Mapper.runs c.self-2.inside.mapper) (g.M.Mapper.refused c.self-2.inside.mapper)
-    (record { seat = c.self-2.inside.seat; rings = c.self-2.inside.rings; stock = c.self-2.inside.stock; parents = c.self-2.inside.parents; usage = c.self-2.inside.usage })
+    (record { seat = c.self-2.inside.seat; rings = c.self-2.inside.rings; stock = c.self-2.inside.stock; parents = c.self-2.inside.parents; usage = c.self-2.inside.usage; counter = c.self-2.inside.counter })
     c.args.class refl works table first
 
 pub returns-in-Some-clause-only : goal.returns-in-Some-clause-only

@@ -1,5 +1,7 @@
-use Rattle.std.proofs.Common.{◌≤◌, sym, subst}
+use Rattle.std.proofs.Common.{◌≤◌, sym, ap, subst}
+use Rattle.ng_lists.specs.Rings.{RingTable}
 use Rattle.ng_view.specs.Lists.{Among}
+use Rattle.ng_view.specs.declared.view.View.{View}
 use Rattle.ng_mask.specs.Fetches.{OfGroup}
 use Rattle.ng_serve.specs.Choices.{IsChoice}
 use Rattle.ng_serve.specs.Takes.{TakesFreed}
@@ -9,6 +11,7 @@ use Rattle.ng_ledger.specs.Rings.{IsTable}
 use Rattle.ng_group.specs.States.{State}
 use Rattle.ng_group.proofs.ServingLemmas.{class_at, inside_at, live_at, member_place}
 use Rattle.ng_group.proofs.TakeLemmas.{choice_freed, described_small, described_within, serves, takes_after}
+use Rattle.ng_group.proofs.WordLemmas.{word_pages, word_was}
 use Rattle.ng_group.proofs.works.Works.serve.Given.{Over}
 use Rattle.ng_group.proofs.works.Works.serve.Goals.{After-decay}
 use Rattle.ng_group.proofs.works.Works.serve.Goals as goal
@@ -83,12 +86,21 @@ takes g c = takes_after c.self.inside.seat c.group_of-group.new.seat c.activate-
 
 pub returns-clause-working : goal.returns-clause-working
 returns-clause-working g c =
-    (serves g.N.Name.facts.start g.M.Mapper.span g.M.Mapper.runs g.M.Mapper.refused _ _ c.args.class c.args.bytes c.args.choice.meta c.take_freed-index.result c.take_freed-index.new.seat c.rotate.new.self c.decay.new.self c.self.view_is c.requires.class c.requires.bytes c.requires.member c.requires.bare c.requires.idle c.rotate.ensures.rotated (table g c) (takes g c) c.requires.working).working
+    (serves g.N.Name.facts.start g.M.Mapper.span g.M.Mapper.runs g.M.Mapper.refused _ _ c.args.class c.args.bytes c.args.choice.meta c.take_freed-index.result c.take_freed-index.new.seat c.follow.new.seat c.rotate.new.self c.decay.new.self c.self.view_is c.requires.class c.requires.bytes c.requires.member c.requires.bare c.requires.idle c.rotate.ensures.rotated (table g c) (takes g c) c.follow.ensures c.requires.working).working
 
 pub returns-clause-only : goal.returns-clause-only
 returns-clause-only g c =
-    (serves g.N.Name.facts.start g.M.Mapper.span g.M.Mapper.runs g.M.Mapper.refused _ _ c.args.class c.args.bytes c.args.choice.meta c.take_freed-index.result c.take_freed-index.new.seat c.rotate.new.self c.decay.new.self c.self.view_is c.requires.class c.requires.bytes c.requires.member c.requires.bare c.requires.idle c.rotate.ensures.rotated (table g c) (takes g c) c.requires.working).only
+    (serves g.N.Name.facts.start g.M.Mapper.span g.M.Mapper.runs g.M.Mapper.refused _ _ c.args.class c.args.bytes c.args.choice.meta c.take_freed-index.result c.take_freed-index.new.seat c.follow.new.seat c.rotate.new.self c.decay.new.self c.self.view_is c.requires.class c.requires.bytes c.requires.member c.requires.bare c.requires.idle c.rotate.ensures.rotated (table g c) (takes g c) c.follow.ensures c.requires.working).only
 
 pub returns-clause-served : goal.returns-clause-served
 returns-clause-served g c =
-    (serves g.N.Name.facts.start g.M.Mapper.span g.M.Mapper.runs g.M.Mapper.refused _ _ c.args.class c.args.bytes c.args.choice.meta c.take_freed-index.result c.take_freed-index.new.seat c.rotate.new.self c.decay.new.self c.self.view_is c.requires.class c.requires.bytes c.requires.member c.requires.bare c.requires.idle c.rotate.ensures.rotated (table g c) (takes g c) c.requires.working).served
+    (serves g.N.Name.facts.start g.M.Mapper.span g.M.Mapper.runs g.M.Mapper.refused _ _ c.args.class c.args.bytes c.args.choice.meta c.take_freed-index.result c.take_freed-index.new.seat c.follow.new.seat c.rotate.new.self c.decay.new.self c.self.view_is c.requires.class c.requires.bytes c.requires.member c.requires.bare c.requires.idle c.rotate.ensures.rotated (table g c) (takes g c) c.follow.ensures c.requires.working).served
+
+pub follow-requires-clause-pages : goal.follow-requires-clause-pages
+follow-requires-clause-pages g c =
+    word_pages g.N.Name.facts.start g.M.Mapper.span g.M.Mapper.runs g.M.Mapper.refused c.self.view_is c.requires.working c.rotate.new.self (ap (λ (t : RingTable). t.pages) c.rotate.ensures.rotated)
+
+pub follow-requires-clause-was : goal.follow-requires-clause-was
+follow-requires-clause-was g c =
+    let takes = takes_after c.self.inside.seat c.group_of-group.new.seat c.activate-active.new.seat c.take_freed-index.new.seat c.args.choice.meta c.take_freed-index.result c.group_of-group.ensures.reads c.activate-active.ensures.reads c.take_freed-index.ensures in
+    word_was g.N.Name.facts.start g.M.Mapper.span g.M.Mapper.runs g.M.Mapper.refused c.self.view_is c.requires.working c.take_freed-index.new.seat c.args.class c.first_word-was.result c.first_word-was.ensures (ap (λ (v : View). v.desk.active) takes.changes.view)
