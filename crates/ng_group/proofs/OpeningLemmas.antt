@@ -1,5 +1,5 @@
 -- What holds of a core as it opens and as it closes, and how large the numbers are that the rules are asked.
-use Rattle.std.proofs.Common.{◌≡◌, ℕ, ◌+◌, ◌^◌, ◌<◌, ◌≤◌, List, [], Contains, slice_index, length, map, replicate, refl, sym, ap, subst, ◌∙◌, inl, arith}
+use Rattle.std.proofs.Common.{◌≡◌, ℕ, ◌^◌, ◌<◌, ◌≤◌, List, [], Contains, slice_index, length, map, replicate, refl, sym, ap, subst, ◌∙◌, inl, arith}
 use Rattle.std.specs.List.{slice_index_or}
 use Rattle.std.proofs.lemmas.List.{get_or-replicate, length-replicate}
 use Rattle.ng_mapper.specs.Mapping.{AreLaid, Span}

@@ -15,8 +15,8 @@ pub(crate) fn first_word(rings: &Rings, class: u32) -> u64
     rings.first(class).unwrap_or(0)
 }
 
-/// Stores the first meta of a ring, or 0, in the active word of its class. Nothing is done where that is `was`, which the
-/// word is.
+/// Stores the first meta of the ring of a class, or 0, in the class's active word. Nothing is done where it is there, in
+/// `was`.
 pub(crate) fn follow<N: Name>(
     space: &Space<N>,
     seat: &mut LockSeat<N>,

@@ -1,4 +1,4 @@
-use Rattle.std.proofs.Common.{ℕ, ◌<◌, length, arith}
+use Rattle.std.proofs.Common.{◌<◌, length, arith}
 use Rattle.ng_group.proofs.WordLemmas.{word_place}
 use Rattle.ng_group.proofs.words.follow.Goals as goal
 

@@ -14,7 +14,7 @@ use Rattle.ng_group.proofs.works.Works.leave_if_bare.Goals as goal
 pub note_ring-requires : goal.note_ring-requires
 note_ring-requires g c = record {
   live = (
-    live_at g.N.Name.facts.start g.M.Mapper.span g.M.Mapper.runs g.M.Mapper.refused _ _ c.args.class c.args.first c.self.view_is c.requires.working c.requires.class (Contains-first (ring_of c.args.self.now.rings c.args.class) c.args.first (sym c.requires.first)));
+      live_at g.N.Name.facts.start g.M.Mapper.span g.M.Mapper.runs g.M.Mapper.refused _ _ c.args.class c.args.first c.self.view_is c.requires.working c.requires.class (Contains-first (ring_of c.args.self.now.rings c.args.class) c.args.first (sym c.requires.first)));
 }
 
 pub next-requires : goal.next-requires

@@ -12,8 +12,8 @@ use Rattle.ng_group.proofs.works.Works.retire_group.Goals as goal
 pub retire-requires : goal.retire-requires
 retire-requires g c = record {
   slots = (
-    let seat : c.self.inside.seat ≡ c.args.self.now.seat = ap (λ (s : State g.row.M.Denot g.row.P.Denot). s.seat) c.self.view_is ∙ ap (λ (s : State g.row.M.Denot g.row.P.Denot). s.seat) c.uncount.ensures.only in
-    all_slots c.self.inside.seat c.args.meta (subst (λ (v : View). HasWhole v c.args.meta) (sym seat) c.requires.whole));
+      let seat : c.self.inside.seat ≡ c.args.self.now.seat = ap (λ (s : State g.row.M.Denot g.row.P.Denot). s.seat) c.self.view_is ∙ ap (λ (s : State g.row.M.Denot g.row.P.Denot). s.seat) c.uncount.ensures.only in
+      all_slots c.self.inside.seat c.args.meta (subst (λ (v : View). HasWhole v c.args.meta) (sym seat) c.requires.whole));
 }
 
 pub clear_meta-requires-clause-idle : goal.clear_meta-requires-clause-idle

@@ -5,16 +5,16 @@ use Rattle.ng_lists.proofs.MemberLemmas.{Contains-first}
 use Rattle.ng_group.specs.States.{State}
 use Rattle.ng_group.proofs.GrowLemmas.{lowest_serves, none_grows, passes}
 use Rattle.ng_group.proofs.RefillLemmas.{empty_finds, if_none, if_some, is_none, no_slot, none_bare, served_available, served_freed}
-use Rattle.ng_group.proofs.ServingLemmas.{live_at, member_place}
+use Rattle.ng_group.proofs.ServingLemmas.{live_at}
 use Rattle.ng_group.proofs.WorkingLemmas.{only_then}
 use Rattle.ng_group.proofs.works.Works.serve_ring.Goals as goal
 
 pub pop_core-requires : goal.pop_core-requires
 pop_core-requires g c = record {
   live = (
-    let begins : slice_get (ring_of c.args.self.now.rings c.args.class) 0 ≡ Some c.in_ok-first.first =
-    subst (λ (s : State g.row.M.Denot g.row.P.Denot). slice_get (ring_of s.rings c.args.class) 0 ≡ Some c.in_ok-first.first) c.self.view_is (sym c.in_ok-first.ensures.first) in
-    live_at g.N.Name.facts.start g.M.Mapper.span g.M.Mapper.runs g.M.Mapper.refused _ _ c.args.class c.in_ok-first.first c.self.view_is c.requires.working c.requires.class (Contains-first (ring_of c.args.self.now.rings c.args.class) c.in_ok-first.first (sym begins)));
+      let begins : slice_get (ring_of c.args.self.now.rings c.args.class) 0 ≡ Some c.in_ok-first.first =
+      subst (λ (s : State g.row.M.Denot g.row.P.Denot). slice_get (ring_of s.rings c.args.class) 0 ≡ Some c.in_ok-first.first) c.self.view_is (sym c.in_ok-first.ensures.first) in
+      live_at g.N.Name.facts.start g.M.Mapper.span g.M.Mapper.runs g.M.Mapper.refused _ _ c.args.class c.in_ok-first.first c.self.view_is c.requires.working c.requires.class (Contains-first (ring_of c.args.self.now.rings c.args.class) c.in_ok-first.first (sym begins)));
 }
 
 pub refill-requires-clause-working : goal.refill-requires-clause-working
