@@ -51,13 +51,11 @@ class Block:
 
 
 def units_of(address, size):
-    """A unit begins 4 bytes early, at a header. A block that isn't of a class has its run of pages."""
+    """A unit begins 4 bytes early, at a header. A block that is of no class has a run of pages."""
     if size < THRESHOLD:
         return range(address // UNIT, (address + size + HEADER - 1) // UNIT + 1)
-    first = (address - GROUP_HEAD) // PAGE * PAGE
-    if address + size + HEADER > first + pages_of(size + HEADER + GROUP_HEAD) * PAGE:
-        raise Fault(f'0x{size:x} bytes at 0x{address:x} pass the end of their run')
-    return range(first // UNIT, first // UNIT + pages_of(size + HEADER + GROUP_HEAD) * PAGE // UNIT)
+    first = (address - GROUP_HEAD) // PAGE
+    return range(first * PAGE // UNIT, (first + pages_of(size + HEADER + GROUP_HEAD)) * PAGE // UNIT)
 
 
 class Order:
@@ -143,6 +141,10 @@ class Report:
             raise Fault(f'"{log + 1} {line}" where "{log + 1} {words}" fits')
         return line[len(words) + 1:]
 
+    def expect(self, log, words):
+        if self.take(log, words):
+            raise Fault(f'words behind "{log + 1} {words}"')
+
     def do(self, op, source_log):
         """One op: its moments, its lines, and what stands for it."""
         log, line = op.log, op.line
@@ -154,21 +156,16 @@ class Report:
             self.handed += 1
         if line.old and block is None:
             word, count = ('skip', 'skipped') if op.source is None else ('none', 'absent')
-            self.expect_end(self.take(log, f'{word} 0x{line.old:x}'))
+            self.expect(log, f'{word} 0x{line.old:x}')
             self.tally[count] += 1
         came = self.make(log, line, block, gives) if line.new else None
         if block and not line.new:
-            self.expect_end(self.take(log, f'free 0x{block.address:x}'))
+            self.expect(log, f'free 0x{block.address:x}')
         if block and (came or not line.new):
             block.taken = takes
             self.tally['taken'] += 1
         self.tally['calls'] += bool(line.new or block)
         self.standing.append(came or (block if line.new else None))
-
-    @staticmethod
-    def expect_end(rest):
-        if rest:
-            raise Fault(f'words too many: {rest}')
 
     def make(self, log, line, block, gives):
         """The block that a make or a move gets, or None."""
@@ -205,9 +202,6 @@ class Report:
         least = len({at * UNIT // PAGE for block in left for at in (block.units.start, block.units.stop - 1)})
         if not (re.fullmatch('pages (0|[1-9][0-9]*)', told) and least <= int(told.split()[1]) < self.pages):
             raise Fault(f'{told} with blocks left on {least} pages, in a space of {self.pages}')
-        self.check_numbers(may_refuse)
-
-    def check_numbers(self, may_refuse):
         numbers = sorted(number for row in self.numbers for number in row)
         if numbers != list(range(1, len(numbers) + 1)) or any(row != sorted(row) for row in self.numbers):
             raise Fault(f'the numbers of refusals are {self.numbers}')

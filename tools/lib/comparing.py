@@ -4,7 +4,7 @@ import subprocess
 import tempfile
 from dataclasses import dataclass
 
-from heap import NESTED_MARK, Group, cycle
+from heap import NESTED_MARK, TOO_LARGE, Group, cycle
 from policy import HEADER, LONE, THRESHOLD, UNIT
 
 FIELDS = ('class', 'slots', 'index', 'pages', 'offset')
@@ -32,19 +32,28 @@ class Placed:
 
 
 class Calls:
-    """The calls for musl, and beside each block that comes where mng has it."""
+    """The calls for musl, and beside each block that comes where mng has it.
+
+    A call that is refused for want of pages leaves marks in rings, metas and bounces, which musl's heap then has not, since
+    its system doesn't refuse. So what is behind the first one is left out.
+    """
 
     def __init__(self):
         self.lines, self.placed = [], []
         self.made = {}
-        self.frees = self.moves = self.refused = self.resized_lone = 0
+        self.frees = self.moves = self.large = self.resized_lone = self.behind = 0
+        self.refused = None
 
     def add(self, event):
-        """A resize in place is one of musl's too; a move is a make and a free; a refused call is none."""
-        self.moves += event.kind == 'realloc'
-        if event.is_refused:
-            self.refused += 1
+        """A resize in place is one of musl's too; a move is a make and a free; a request that is too large is none."""
+        if self.refused is not None:
+            self.behind += 1
             return
+        if event.is_refused:
+            self.large += event.size >= TOO_LARGE
+            self.refused = event.number if event.size < TOO_LARGE else None
+            return
+        self.moves += event.kind == 'realloc'
         if event.stays:
             self.place(event, f'r {self.made[event.came]} {event.size}\n')
             return
@@ -140,7 +149,10 @@ class Comparison:
     def lines(self, most):
         """The figures, and the first differences of each kind."""
         calls, total = self.calls, len(self.calls.placed)
-        yield f'{total} blocks placed, {calls.frees} ended, {calls.moves} moves, {calls.refused} refused calls left out'
+        yield f'{total} blocks placed, {calls.frees} ended, {calls.moves} moves, {calls.large} requests too large left out'
+        if calls.refused is not None:
+            yield (f'compared up to call {calls.refused}, which mng refuses for want of pages: {calls.behind} calls behind it '
+                   'left out (--pages gives more room)')
         yield ', '.join(f'{field} {count} of {total}' for field, count in self.same.items())
         for cause, found in self.causes.items():
             yield f'offsets that differ by {cause}: {len(found)}'

@@ -7,7 +7,7 @@ WIDTH, LEFT = 1000, 92
 COLUMNS = 720
 ASKED, SLOTS, MAPPED, REFUSED = '#009e73', '#0072b2', '#777777', '#cc0000'
 COLOURS = dict(zip(range(BANDS), ('#56b4e9', '#0072b2', '#009e73', '#e69f00', '#d55e00', '#cc79a7')))
-COLOURS[AREA], COLOURS[LONE_BAND] = '#555555', '#332288'
+COLOURS[AREA], COLOURS[LONE_BAND] = '#000000', '#332288'
 SHARES = {LIVE: 1.0, AVAILABLE: 0.5, FREED: 0.22}
 
 
@@ -125,7 +125,8 @@ def draw_space(canvas, space, call, top):
     bands = sorted({band for kinds in space.pages.values() for band, _ in kinds}, key=str)
     below = canvas.legend(LEFT, top + 24, [(COLOURS[band], band_words(band)) for band in bands])
     tints = [(mix('#555555', share), words) for words, share in zip(
-        ('live: a block has the slot', 'available: may be popped without the lock', 'freed: came back, or not yet in use'),
+        ('full shade, live: a block has the slot', 'half, available: may be popped without the lock',
+         'pale, freed: came back, or not yet in use'),
         SHARES.values())]
     below = canvas.legend(LEFT, below + 20, tints)
     pages = Map(canvas, space, below + 32)
