@@ -1,0 +1,24 @@
+"""The cases of tests/cases, and what tests of the tools share."""
+import os
+
+ROOT = os.path.dirname(os.path.dirname(os.path.dirname(os.path.abspath(__file__))))
+CASES = os.path.join(ROOT, 'tests/cases')
+
+
+def read(path, mode='r'):
+    with open(path, mode) as file:
+        return file.read()
+
+
+def wanted(got, want, what):
+    if got != want:
+        raise AssertionError(f'{what}: {got!r}, wanted {want!r}')
+
+
+def words_of(case):
+    path = os.path.join(CASES, case, 'args')
+    return read(path).split() if os.path.exists(path) else []
+
+
+def option(words, name, other):
+    return words[words.index(name) + 1] if name in words else other
