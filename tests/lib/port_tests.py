@@ -32,12 +32,12 @@ def porting_names(_):
     wanted(checked > 100, True, 'many names were checked')
 
 
-MUSL = ('alloc_slot', 'try_avail', 'alloc_group', 'enframe', 'get_meta', 'free', 'nontrivial_free', 'okay_to_free', 'free_group',
-        'set_size', 'get_nominal_size', 'is_bouncing')
+MUSL = ('alloc_slot', 'try_avail', 'alloc_group', 'enframe', 'get_meta', 'free', 'nontrivial_free', 'okay_to_free',
+        'free_group', 'set_size', 'get_nominal_size', 'is_bouncing')
 
 
 def porting_functions(_):
-    """Of each of musl's functions docs/PORTING.md says where it is here, what is left to the reader, and which wrong body tells."""
+    """Of each of musl's functions docs/PORTING.md says where it is, what is left to the reader, and which wrong body tells."""
     parts = re.split('^### ', read(os.path.join(ROOT, 'docs/PORTING.md')), flags=re.MULTILINE)
     for name in MUSL:
         part = next((part for part in parts if f'*{name}*' in part.splitlines()[0]), '')

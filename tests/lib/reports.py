@@ -16,7 +16,8 @@ from heap import TOO_LARGE
 from logs import ops_of, read_logs
 from policy import GROUP_HEAD, HEADER, PAGE, THRESHOLD, UNIT, pages_of
 
-COUNTS = ('logs', 'calls', 'given', 'taken', 'resized', 'nomemory', 'toolarge', 'badalign', 'skipped', 'absent', 'left', 'pages')
+COUNTS = ('logs', 'calls', 'given', 'taken', 'resized', 'nomemory', 'toolarge', 'badalign', 'skipped', 'absent', 'left',
+          'pages')
 ADDRESS = re.compile(r'0x[1-9a-f][0-9a-f]*')
 REFUSAL = re.compile(r'NoMemory ([1-9][0-9]*)')
 
@@ -217,7 +218,7 @@ class Report:
 
 
 def check(log, text, pages=4096, may_refuse=True):
-    """Raises Fault where the output can't be a report of replay on these logs; else the counts of ops, hand-offs and refusals."""
+    """Raises Fault where the output can't be a report of replay on these logs. The counts of ops, hand-offs and refusals."""
     logs = read_logs(log)
     ops = ops_of(logs)
     report = Report(text, logs, pages)
