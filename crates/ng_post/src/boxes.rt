@@ -10,6 +10,8 @@ use ng_space::Name;
 pub struct Boxes<N: Name> {
     pub(crate) boxes: Vec<MailBox<N>>,
     pub(crate) receivers: Vec<u32>,
+    /// For each number its rank among those that its receiver receives.
+    pub(crate) ranks: Vec<u32>,
     ghost within: { All (λ log. log < vec_len boxes) receivers.items },
 }
 
@@ -24,6 +26,9 @@ pub struct Door<N: Name> {
     pub(crate) to: Vec<Key<N>>,
     /// Letters that came and weren't asked for yet.
     pub(crate) kept: Vec<Letter<N>>,
+    /// By a number's rank, where in `kept` its letter came to lie. A place is a hint: what lies there
+    /// is taken only if it has the number.
+    pub(crate) places: Vec<u32>,
     /// What was posted: each number with the address of its block, or nothing.
     pub(crate) sent: Vec<(u64, Option<u64>)>,
     /// What was collected.

@@ -25,13 +25,11 @@ impl<N: Name> Boxes<N> {
         ensures room { vec_capacity door.new.got ≡ vec_capacity door.old.got }
     {
         let backoff = Backoff::new();
-        let mut seen = 0;
         for _ in rt.forever() {
-            if let Some(letter) = take_kept(&mut door.kept, seen, number) {
+            if let Some(letter) = self.take_kept(&mut door.kept, &mut door.places, number) {
                 door.got.push_reserved((number, letter.mail.address()));
                 return letter.mail;
             }
-            seen = door.kept.len();
             if self.take_in(door) {
                 backoff.reset();
             } else {
@@ -58,24 +56,54 @@ impl<N: Name> Boxes<N> {
         let Some(letter) = mail_box.try_pop_as::<Gets>(&mut door.own) else {
             return false;
         };
+        self.note(&mut door.places, letter.number, door.kept.len());
         door.arrived
             .push_reserved((letter.number, letter.mail.address()));
         door.kept.push_reserved(letter);
         true
     }
-}
 
-/// Takes out a letter of this number, where one is kept behind those that were seen.
-fn take_kept<N: Name>(kept: &mut Vec<Letter<N>>, seen: usize, number: u64) -> Option<Letter<N>>
-    ensures number { IfSome result (λ letter. letter.number ≡ number) }
-    ensures moved { IfSome result (λ letter. IsPermutation (map pair_of kept.old.items)
-        (pair_of letter ∷ map pair_of kept.new.items)) }
-    ensures stays { result ≡ None → kept.new.items ≡ kept.old.items }
-{
-    for k in seen..kept.len() {
-        if kept[k].number == number {
-            return Some(kept.swap_remove(k));
+    /// Takes out the letter of this number, if it is kept.
+    ///
+    /// It looks at the one place that was noted for the number. What lies there is taken only if it has the number, so that a
+    /// wrong place never gives other mail, and nothing is proved of places: by one the letter would stay kept and be waited
+    /// for, as by two letters of one number, of which the later one is noted. In a replay each number is posted once.
+    fn take_kept(
+        &self,
+        kept: &mut Vec<Letter<N>>,
+        places: &mut Vec<u32>,
+        number: u64,
+    ) -> Option<Letter<N>>
+        ensures number { IfSome result (λ letter. letter.number ≡ number) }
+        ensures moved { IfSome result (λ letter. IsPermutation (map pair_of kept.old.items)
+            (pair_of letter ∷ map pair_of kept.new.items)) }
+        ensures stays { result ≡ None → kept.new.items ≡ kept.old.items }
+    {
+        let place = *places.as_slice().get(self.rank(number)?)? as usize;
+        if place >= kept.len() || kept[place].number != number {
+            return None;
+        }
+        let letter = kept.swap_remove(place);
+        if place < kept.len() {
+            // The last letter came to lie in the hole.
+            self.note(places, kept[place].number, place);
+        }
+        Some(letter)
+    }
+
+    /// Notes where in `kept` the letter of a number lies.
+    fn note(&self, places: &mut Vec<u32>, number: u64, place: usize) {
+        let Some(rank) = self.rank(number) else {
+            return;
+        };
+        if let Some(noted) = places.get_mut(rank) {
+            *noted = u32::try_from(place).unwrap_or(u32::MAX);
         }
     }
-    None
+
+    /// The rank of a number among those that its receiver receives, if it is a hand-off's.
+    fn rank(&self, number: u64) -> Option<usize> {
+        let rank = self.ranks.as_slice().get((number as usize).checked_sub(1)?)?;
+        Some(*rank as usize)
+    }
 }

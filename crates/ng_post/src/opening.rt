@@ -42,6 +42,7 @@ fn open_boxes<N: Name>(alloc: Global, plan: &Plan) -> Result<(Boxes<N>, Vec<Key<
 {
     let count = plan.logs.len();
     let receivers = plan.receivers.as_slice().to_vec(alloc)?;
+    let ranks = ranks_of(alloc, receivers.as_slice(), count)?;
     let mut boxes = Vec::with_capacity(alloc, count)?;
     let mut leads = Vec::with_capacity(alloc, count)?;
     for log in 0..count {
@@ -50,7 +51,26 @@ fn open_boxes<N: Name>(alloc: Global, plan: &Plan) -> Result<(Boxes<N>, Vec<Key<
         boxes.push_reserved(mail_box);
         leads.push_reserved(lead);
     }
-    Ok((Boxes { boxes, receivers }, leads))
+    let boxes = Boxes {
+        boxes,
+        receivers,
+        ranks,
+    };
+    Ok((boxes, leads))
+}
+
+/// For each number its rank among those that its receiver receives, from 0.
+fn ranks_of(alloc: Global, receivers: &[u32], logs: usize) -> Result<Vec<u32>, AllocError>
+    requires receivers { All (λ log. log < logs) receivers.now }
+{
+    let mut received = vec![in alloc; 0u32; logs]?;
+    let mut ranks = Vec::with_capacity(alloc, receivers.len())?;
+    for receiver in receivers {
+        let count = &mut received[*receiver as usize];
+        ranks.push(*count)?;
+        *count = count.saturating_add(1);
+    }
+    Ok(ranks)
 }
 
 /// Makes a door for each log.
@@ -100,6 +120,7 @@ fn open_door<N: Name>(
         own,
         to,
         kept: Vec::with_capacity(alloc, letters)?,
+        places: vec![in alloc; 0u32; letters]?,
         sent: Vec::with_capacity(alloc, ops)?,
         got: Vec::with_capacity(alloc, ops)?,
         arrived: Vec::with_capacity(alloc, letters)?,

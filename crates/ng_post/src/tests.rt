@@ -1,8 +1,8 @@
-ghost use Rattle.std.specs.Prelude.{◌≡◌, ◌∷◌, [], IfOk, length, map};
+ghost use Rattle.std.specs.Prelude.{◌≡◌, ◌∷◌, [], IfOk, None, length, map};
 ghost use Rattle.ng_post.specs.Doors.{IsDoorOf};
 ghost use Rattle.ng_post.specs.Opened.{IsFresh};
 
-use crate::{Boxes, Door, Mail, open};
+use crate::{Boxes, Door, Mail, finish, open};
 use ng_space::Name;
 use ng_terms::{Items, Op, Origin, Plan};
 use std::alloc::{AllocError, Global};
@@ -46,6 +46,9 @@ fn post_three<N: Name, R: Wait>(rt: &R, boxes: &Boxes<N>, mut door: Door<N>) -> 
     requires door { IsDoorOf boxes.now door }
     requires fresh { IsFresh door 3 0 }
     requires receivers { boxes.now.receivers.items ≡ 1 ∷ 1 ∷ 1 ∷ [] }
+    ensures door { IsDoorOf boxes.now result }
+    ensures log { result.log ≡ door.log }
+    ensures sent { result.sent.items ≡ (1, None) ∷ (2, None) ∷ (3, None) ∷ [] }
 {
     boxes.post(rt, &mut door, 1, Mail::Nothing);
     boxes.post(rt, &mut door, 2, Mail::Nothing);
@@ -56,6 +59,10 @@ fn post_three<N: Name, R: Wait>(rt: &R, boxes: &Boxes<N>, mut door: Door<N>) -> 
 fn collect_three<N: Name, R: Wait>(rt: &R, boxes: &Boxes<N>, mut door: Door<N>) -> Door<N>
     requires door { IsDoorOf boxes.now door }
     requires fresh { IsFresh door 3 3 }
+    ensures door { IsDoorOf boxes.now result }
+    ensures log { result.log ≡ door.log }
+    ensures sent { result.sent.items ≡ [] }
+    ensures got { map (λ pair. pair.0) result.got.items ≡ 3 ∷ 1 ∷ 2 ∷ [] }
 {
     drop(boxes.collect(rt, &mut door, 3));
     drop(boxes.collect(rt, &mut door, 1));
@@ -75,6 +82,13 @@ fn hand_over<R: Threads + Wait + Sync>(
     requires first_fresh { IsFresh first 3 0 }
     requires second_fresh { IsFresh second 3 3 }
     requires receivers { boxes.now.receivers.items ≡ 1 ∷ 1 ∷ 1 ∷ [] }
+    ensures first { IsDoorOf boxes.now result.0 }
+    ensures first_log { result.0.log ≡ first.log }
+    ensures sent { result.0.sent.items ≡ (1, None) ∷ (2, None) ∷ (3, None) ∷ [] }
+    ensures second { IsDoorOf boxes.now result.1 }
+    ensures second_log { result.1.log ≡ second.log }
+    ensures none_sent { result.1.sent.items ≡ [] }
+    ensures got { map (λ pair. pair.0) result.1.got.items ≡ 3 ∷ 1 ∷ 2 ∷ [] }
 {
     thread::join(
         rt,
@@ -91,7 +105,7 @@ fn numbers(pairs: &[(u64, Option<u64>)], alloc: Global) -> Result<Vec<u64>, Allo
     Ok(numbers)
 }
 
-/// Three hand-offs are posted in order and collected out of order, in two threads.
+/// Three hand-offs are posted in order and collected out of order, in two threads, and all is ended.
 #[test]
 fn three_letters(rt: HostRuntime) -> Result<(), Fail> {
     let plan = three_hand_offs(rt.alloc())?;
@@ -107,5 +121,6 @@ fn three_letters(rt: HostRuntime) -> Result<(), Fail> {
     assert_eq!(rt; sent.as_slice(), [1, 2, 3].as_slice());
     assert_eq!(rt; arrived.as_slice(), [1, 2, 3].as_slice());
     assert_eq!(rt; got.as_slice(), [3, 1, 2].as_slice());
+    finish(boxes, vec![in rt.alloc(); first, second]?);
     Ok(())
 }

@@ -1,8 +1,12 @@
-use Rattle.std.proofs.Common.{◌≡◌, ◌∙◌, ◌<◌, ◌∷◌, [], ℕ, List, ap, arith, get_or, length, map, subst, sym}
+use Rattle.std.proofs.Common.{◌≡◌, ◌∙◌, ◌<◌, ◌≤◌, ◌==◌, ◌∷◌, ◌++◌, ◌||◌, [], zero, suc, ℕ, List, None, ap, arith, get_or, length, map, refl, subst, sym, true}
+use Rattle.std.specs.Prelude.{count_by}
+use Rattle.std.specs.List.{list_any}
 use Rattle.std.specs.declared.marker.Brand.{Brand}
 use Rattle.std.proofs.lemmas.List.{get_or-map, length-map}
 use Rattle.ng_post.specs.declared.boxes.Door.{Door}
 use Rattle.ng_post.specs.Doors.{IsDoorOf}
+use Rattle.ng_post.specs.Ends.{is_of}
+use Rattle.ng_post.specs.Letters.{Pair}
 use Rattle.ng_post.specs.Opened.{AreOpened, IsFresh, received_by}
 use Rattle.ng_terms.specs.declared.plan.Op.{Op}
 use Rattle.ng_terms.specs.declared.plan.Plan.{Plan}
@@ -56,3 +60,35 @@ hand_over-first-requires-clause-second_fresh g c = λ _.
 
 pub hand_over-first-requires-clause-receivers : goal.hand_over-first-requires-clause-receivers
 hand_over-first-requires-clause-receivers g c = λ _. c.in-Ok.ensures.receivers ∙ c.in_ok-plan.ensures.receivers
+
+-- what holds of two doors, each with its log
+each_of_two : (P : ℕ → Door Brand → Type 0) (a b d : Door Brand) (k : ℕ) → P 0 a → P 1 b → k < 2 → P k (get_or (a ∷ b ∷ []) k d)
+each_of_two P a b d zero first second lt = first
+each_of_two P a b d (suc zero) first second lt = second
+each_of_two P a b d (suc (suc k)) first second lt = absurd (omega arith)
+
+-- whether a number is among the pairs
+any-numbers : (number : ℕ) (pairs : List Pair) → list_any (is_of number) pairs ≡ list_any (λ (n : ℕ). n == number) (map (λ (pair : Pair). pair.0) pairs)
+any-numbers number [] = refl
+any-numbers number (pair ∷ pairs) = ap (λ b. (pair.0 == number) || b) (any-numbers number pairs)
+
+-- each of the three numbers is among 3, 1 and 2
+any_of_three : (number : ℕ) → 1 ≤ number → number ≤ 3 → list_any (λ (n : ℕ). n == number) (3 ∷ 1 ∷ 2 ∷ []) ≡ true
+any_of_three zero least most = absurd (omega arith)
+any_of_three (suc zero) least most = refl
+any_of_three (suc (suc zero)) least most = refl
+any_of_three (suc (suc (suc zero))) least most = refl
+any_of_three (suc (suc (suc (suc n)))) least most = absurd (omega arith)
+
+-- no number is twice among 1, 2 and 3
+posted_once : (number : ℕ) (sent none : List Pair) → sent ≡ (1, None) ∷ (2, None) ∷ (3, None) ∷ [] → none ≡ [] → count_by (is_of number) (sent ++ none ++ []) ≤ 1
+posted_once number sent none three nothing = rw (three, nothing) (grind arith)
+
+pub finish-requires-clause-doors : goal.finish-requires-clause-doors
+finish-requires-clause-doors g c = ?
+
+pub finish-requires-clause-once : goal.finish-requires-clause-once
+finish-requires-clause-once g c = ?
+
+pub finish-requires-clause-collected : goal.finish-requires-clause-collected
+finish-requires-clause-collected g c = ?
