@@ -63,11 +63,11 @@ impl<N: Name> Boxes<N> {
         true
     }
 
-    /// Takes out the letter of this number, if it is kept.
+    /// Takes out the letter of this number, if it lies where the number's place was noted.
     ///
-    /// It looks at the one place that was noted for the number. What lies there is taken only if it has the number, so that a
-    /// wrong place never gives other mail, and nothing is proved of places: by one the letter would stay kept and be waited
-    /// for, as by two letters of one number, of which the later one is noted. In a replay each number is posted once.
+    /// What lies there is taken only if it has the number. So a wrong place never gives other mail, and nothing is proved of
+    /// places: a letter that lies elsewhere would only be waited for. Of two letters of one number the later one is noted. In a
+    /// replay there are none, since each number is posted once.
     fn take_kept(
         &self,
         kept: &mut Vec<Letter<N>>,
@@ -103,7 +103,10 @@ impl<N: Name> Boxes<N> {
 
     /// The rank of a number among those that its receiver receives, if it is a hand-off's.
     fn rank(&self, number: u64) -> Option<usize> {
-        let rank = self.ranks.as_slice().get((number as usize).checked_sub(1)?)?;
+        let rank = self
+            .ranks
+            .as_slice()
+            .get((number as usize).checked_sub(1)?)?;
         Some(*rank as usize)
     }
 }
