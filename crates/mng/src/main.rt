@@ -10,6 +10,8 @@ mod fresh;
 mod numbers;
 mod prepare;
 mod replaying;
+#[cfg(test)]
+mod replaying_tests;
 mod run;
 mod status;
 #[cfg(test)]

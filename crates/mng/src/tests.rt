@@ -31,7 +31,7 @@ const MANUAL_REPORT: &[u8] = b"1 skip 0x8064cc8\n1 skip 0x8064ce0\n1 skip 0x8064
 logs 1\ncalls 4\ngiven 4\ntaken 0\nresized 0\nnomemory 0\ntoolarge 0\nbadalign 0\nskipped 3\nabsent 0\nleft 4\npages 2\n";
 
 /// What `tool` answers and writes, where these reads and writes fail.
-fn replayed(
+pub(crate) fn replayed(
     alloc: Global,
     words: &[&str],
     input: &[u8],
