@@ -13,7 +13,7 @@ use Rattle.ng_group.specs.States.{State}
 use Rattle.ng_group.specs.Steps.{GoesOn}
 use Rattle.ng_mapper.specs.Runs as mapper
 use Rattle.ng_policy.specs.declared.ask.Spare.{Spare}
-use Rattle.ng_heap.specs.Freeing.{FreesIn, FreesUnlocked, OnLeft, Settles, pushed_as}
+use Rattle.ng_heap.specs.Freeing.{Frees, FreesIn, FreesUnlocked, GoesBack, OnLeft, Settles, pushed_as}
 use Rattle.ng_heap.specs.declared.freeing.Unlocked.{Unlocked}
 use Rattle.ng_heap.specs.declared.freeing.Unlocked.TheVariants as unlocked
 
@@ -50,30 +50,50 @@ frees_unnamed before block answer after frees = record {
   };
 }
 
--- ---- a free under the lock
-module _ {M P X : Type 0} (keeps : Spare → Bool → Type 0) (runs : M → List mapper.Run) (before : Caller) (block : BlockToken)
-    (core core_after : State M P) (answer : Unlocked X) (left after : View)
+-- ---- a free, whose slot went back
+module _ {X : Type 0} (before : Caller) (block : BlockToken) (answer : Unlocked X) (left after : View)
     (frees : FreesUnlocked before block answer left) (of_block : OnLeft answer (λ slot. slot ≡ block.slot)) where
-  settled : Settles keeps runs core core_after (unnamed answer) left after → FreesIn keeps runs before block core core_after after
-  settled settles = record {
+  abbrev went_back : GoesBack (unnamed answer) left after → Frees before block after
+  went_back back = record {
     freed = unnamed answer;
     left = left;
     frees = frees_unnamed before block answer left frees;
     of_block = left_unnamed answer (λ slot. slot ≡ block.slot) of_block;
-    settles = settles;
+    back = back;
   }
 
-  -- the push put the slot back
-  pub done_frees : answer ≡ unlocked.Done → core_after ≡ core → after ≡ left → FreesIn keeps runs before block core core_after after
-  done_frees is same view =
-      settled (subst (λ (a : Unlocked X). Settles keeps runs core core_after (unnamed a) left after) (sym is) (same, view))
+  -- the push put it back
+  done_went : answer ≡ unlocked.Done → after ≡ left → GoesBack (unnamed answer) left after
+  done_went is view = subst (λ (a : Unlocked X). GoesBack (unnamed a) left after) (sym is) view
 
-  -- it left the slot, which was returned
-  pub left_frees : (slot : Token) (why : Needs) → answer ≡ unlocked.Left slot why
-      → ReturnsOfHand keeps runs core core_after slot.meta slot.index → after ≡ pushed left slot.meta slot.index
-      → FreesIn keeps runs before block core core_after after
-  left_frees slot why is returns view =
-      settled (subst (λ (a : Unlocked X). Settles keeps runs core core_after (unnamed a) left after) (sym is) (returns, view))
+  pub done_back : answer ≡ unlocked.Done → after ≡ left → Frees before block after
+  done_back is view = went_back (done_went is view)
+
+  -- it left the slot, which went out of the hand then
+  left_went : (slot : Token) (why : Needs) → answer ≡ unlocked.Left slot why → after ≡ pushed left slot.meta slot.index
+      → GoesBack (unnamed answer) left after
+  left_went slot why is view = subst (λ (a : Unlocked X). GoesBack (unnamed a) left after) (sym is) view
+
+  pub left_back : (slot : Token) (why : Needs) → answer ≡ unlocked.Left slot why → after ≡ pushed left slot.meta slot.index
+      → Frees before block after
+  left_back slot why is view = went_back (left_went slot why is view)
+
+  -- ---- under the lock
+  module _ {M P : Type 0} (keeps : Spare → Bool → Type 0) (runs : M → List mapper.Run) (core core_after : State M P) where
+    settled : GoesBack (unnamed answer) left after → Settles keeps runs core core_after (unnamed answer)
+        → FreesIn keeps runs before block core core_after after
+    settled back settles = record { hand = went_back back; settles = settles }
+
+    pub done_frees : answer ≡ unlocked.Done → core_after ≡ core → after ≡ left → FreesIn keeps runs before block core core_after after
+    done_frees is same view =
+        settled (done_went is view) (subst (λ (a : Unlocked X). Settles keeps runs core core_after (unnamed a)) (sym is) same)
+
+    -- which was returned to the core
+    pub left_frees : (slot : Token) (why : Needs) → answer ≡ unlocked.Left slot why
+        → ReturnsOfHand keeps runs core core_after slot.meta slot.index → after ≡ pushed left slot.meta slot.index
+        → FreesIn keeps runs before block core core_after after
+    left_frees slot why is returns view =
+        settled (left_went slot why is view) (subst (λ (a : Unlocked X). Settles keeps runs core core_after (unnamed a)) (sym is) returns)
 
 -- the core did nothing
 pub stayed_on : (v w : View) → w ≡ v → GoesOn v w

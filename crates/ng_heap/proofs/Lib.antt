@@ -1,5 +1,8 @@
 pub mod FreeLemmas
 pub mod PutLemmas
+pub mod QuickLemmas
+pub mod ReadLemmas
 pub mod SendLemmas
 pub mod SlotLemmas
 pub mod StayLemmas
+pub mod TestLemmas

@@ -1,20 +1,22 @@
 -- A block is put into the slot that came.
-use Rattle.std.proofs.Common.{◌≡◌, ℕ, ◌+◌, ◌*◌, ◌%◌, refl, sym, ◌∙◌, subst, ⊎_elim, inl, inr, arith}
+use Rattle.std.proofs.Common.{◌≡◌, ◌≢◌, ℕ, ◌+◌, ◌*◌, ◌%◌, refl, sym, ap, ◌∙◌, subst, ⊎_elim, inl, inr, arith}
 use Rattle.ng_policy.specs.declared.ask.Ask.{Ask}
 use Rattle.ng_view.specs.declared.view.Held.{Held}
 use Rattle.ng_view.specs.declared.view.Place.{Place}
 use Rattle.ng_view.specs.declared.view.View.{View}
 use Rattle.ng_space.specs.Leaving.{Learns, Leaves, LeavesAll, LiesStill, Stays}
 use Rattle.ng_space.proofs.LeavingFrames.{all_leaves, leaves_then}
-use Rattle.ng_frame.specs.Puts.{Cycles, IsNear}
+use Rattle.ng_frame.specs.Puts.{Cycles, IsNear, put_at}
 use Rattle.ng_frame.proofs.Frames.{given_by_cycle}
-use Rattle.ng_space.specs.Blocks.{BlockToken, HasFramed, OfSlot, Serves}
+use Rattle.ng_frame.proofs.Tokens.{block_stays}
+use Rattle.ng_space.specs.Blocks.{BlockToken, HasBlock, HasFramed, OfSlot, Serves}
 use Rattle.ng_space.specs.Callers.{Caller}
 use Rattle.ng_space.specs.Tokens.{HasSlot, Token}
 use Rattle.ng_group.specs.Hands.{GainsSlot}
 use Rattle.ng_group.specs.States.{State}
 use Rattle.ng_heap.specs.Causes.{BuildsFor, HasClass}
-use Rattle.ng_heap.specs.Making.{IsGivenNow}
+use Rattle.ng_heap.specs.Keeps.{IsFresh}
+use Rattle.ng_heap.specs.Making.{IsGivenNow, IsMade, IsPutBy}
 use Rattle.ng_heap.proofs.SlotLemmas.{gained_leaves}
 
 -- ---- the slot lies where it did
@@ -29,7 +31,7 @@ still_serves old new slot n has leaves serves h found =
     subst (Serves n 16) q (subst (λ (p : Place). Serves n 16 (record k.0 { place = p })) (sym k.2.place) (serves has.held has.found))
 
 -- the slot's class is the same once a block was put into it
-put_class : (class : ℕ) (mid after : Caller) (slot : Token) → HasSlot mid slot → Stays slot.meta slot.index mid.view after.view LiesStill
+pub put_class : (class : ℕ) (mid after : Caller) (slot : Token) → HasSlot mid slot → Stays slot.meta slot.index mid.view after.view LiesStill
     → HasClass mid slot class → HasClass after slot class
 put_class class mid after slot has stays is h found =
     let k = stays has.held has.found in
@@ -47,19 +49,42 @@ put_builds counts before core n mid after slot other same has stays builds =
     builds)
 
 -- ---- the word that was found gives the block's place
-pub given_now : (before came found : View) (after : Caller) (slot : Token) (n counter o : ℕ) (block : BlockToken)
-    → block ≡ record { slot = slot; at = slot.start + 16 * o; len = n; align = 16 } → GainsSlot slot.meta slot.index before came
-    → Cycles came slot n counter o found → IsNear slot n o → Leaves slot found after.view → HasFramed after block
-    → IsGivenNow before block counter after
-given_now before came found after slot n counter o block is gains cycles near leaves framed =
-    subst (λ (b : BlockToken). IsGivenNow before b counter after) (sym is) (record {
-      came = came;
-      gains = gains;
+pub put_by : (came found : View) (after : Caller) (slot : Token) (n counter o : ℕ) (block : BlockToken)
+    → block ≡ put_at slot n o → Cycles came slot n counter o found → IsNear slot n o → Leaves slot found after.view
+    → HasFramed after block → IsPutBy came block counter after
+put_by came found after slot n counter o block is cycles near leaves framed =
+    subst (λ (b : BlockToken). IsPutBy came b counter after) (sym is) (record {
       word = cycles.word;
       leaves = subst (λ (v : View). Leaves slot v after.view) cycles.view leaves;
       given = given_by_cycle after slot o n (slot.start + 16 * o) (cycles.word % 4294967296) counter refl near.whole
           (let within = near.within in omega (arith, within)) cycles.offset_is (subst (HasFramed after) is framed);
     })
+
+pub given_now : (before came : View) (after : Caller) (slot : Token) (n counter o : ℕ) (block : BlockToken)
+    → block ≡ put_at slot n o → GainsSlot slot.meta slot.index before came → IsPutBy came block counter after
+    → IsGivenNow before block counter after
+given_now before came after slot n counter o block is gains puts = record {
+  came = came;
+  gains = subst (λ (b : BlockToken). GainsSlot b.slot.meta b.slot.index before came) (sym is) gains;
+  puts = puts;
+}
+
+-- the slot had no block, and each other block stays until the put
+pub made_now : (before came found after : Caller) (slot : Token) (n o : ℕ) (block : BlockToken)
+    → block ≡ put_at slot n o → IsFresh before slot → GainsSlot slot.meta slot.index before.view came.view
+    → came.number ≡ before.number → found.number ≡ came.number → LeavesAll came.view found.view
+    → ((other : BlockToken) → HasBlock found other → other.at ≢ block.at) → HasFramed after block → IsMade n before block after
+made_now before came found after slot n o block is fresh gains number same leaves apart framed = record {
+  len = ap (λ (b : BlockToken). b.len) is;
+  align = ap (λ (b : BlockToken). b.align) is;
+  framed = framed;
+  fresh = subst (λ (b : BlockToken). IsFresh before b.slot) (sym is) fresh;
+  apart = λ other has.
+      let gained = gained_leaves slot before.view came.view gains in
+      let stays = gained.others.slots other.slot.meta other.slot.index (fresh.blocks other has) in
+      let there = block_stays before came number other stays has in
+      apart other (block_stays came found same other (leaves.all.slots other.slot.meta other.slot.index) there);
+}
 
 -- ---- what the hand has besides
 pub put_leaves : (slot : Token) (v u w x : View) → GainsSlot slot.meta slot.index v u → LeavesAll u w → Leaves slot w x → Leaves slot v x

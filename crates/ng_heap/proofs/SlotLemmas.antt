@@ -72,14 +72,14 @@ same_forth m i (x ∷ xs) (y ∷ ys) h same e = carried (by_test (same_forth m i
     carried r = (r.0, ap (λ p. cond (is_at m i p) (Some y) (find m i ys)) same.0.place ∙ r.1, r.2)
 
 -- each is framed where it was
-same_each : (hs ks : List Held) → AreSameSlots hs ks → ((h : Held) → Among h hs → HasFrame h) → (k : Held) → Among k ks → HasFrame k
+pub same_each : (hs ks : List Held) → AreSameSlots hs ks → ((h : Held) → Among h hs → HasFrame h) → (k : Held) → Among k ks → HasFrame k
 same_each [] [] same framed k there = elim there [ ]
 same_each [] (y ∷ ys) same framed k there = elim same [ ]
 same_each (x ∷ xs) [] same framed k there = elim same [ ]
 same_each (x ∷ xs) (y ∷ ys) same framed k (inl e) = subst HasFrame (sym e) (learns_frame x y (same_learns x y same.0) (framed x (inl refl)))
 same_each (x ∷ xs) (y ∷ ys) same framed k (inr e) = same_each xs ys same.1 (λ h was. framed h (inr was)) k e
 
-same_all : (v w : View) → AreSameSlots v.held w.held → KeepsAll v w
+pub same_all : (v w : View) → AreSameSlots v.held w.held → KeepsAll v w
 same_all v w same = record {
   slots = λ m i h found. same_forth m i v.held w.held h same found;
   back = λ m i k found. same_back m i v.held w.held k same found;
@@ -192,7 +192,7 @@ module _ {M P : Type 0} (before looked : State M P) (is : IsLooked before looked
   }
 
 -- ---- what was built for the slot
-of_class : (hand : Caller) (class n : ℕ) (slot : Token) → IsSlotFor class n hand slot → HasClass hand slot class
+pub of_class : (hand : Caller) (class n : ℕ) (slot : Token) → IsSlotFor class n hand slot → HasClass hand slot class
 of_class hand class n slot is = of_tag hand class n slot (λ h. h.place.group.tag ≡ class + 1) is (λ h tag. tag)
 
 pub answered_lone : {M P : Type 0} (counts : Ask → ℕ → Type 0) (before after : State M P) (n : ℕ) (hand : Caller) (answer : Answer)

@@ -32,17 +32,26 @@ pub record FreesUnlocked {X : Type 0} (before : Caller) (block : BlockToken) (an
   pub takes : Takes before.view block before.number taken
   pub pushes : HasPushCause taken block.slot.meta block.slot.index (pushed_as answer) after
 
--- a slot that was pushed is back in its group, and one that the push left was returned to the core
-abbrev pub Settles : {M P : Type 0} → (Spare → Bool → Type 0) → (M → List mapper.Run) → State M P → State M P → Unlocked (Unit {0}) → View → View → Type 0
-Settles keeps runs before after Done left view = (after ≡ before) × (view ≡ left)
-Settles keeps runs before after (Left slot needs) left view =
-    ReturnsOfHand keeps runs before after slot.meta slot.index × (view ≡ pushed left slot.meta slot.index)
+-- a slot that was pushed is back in its group, and one that the push left went out of the hand then
+abbrev pub GoesBack : Unlocked (Unit {0}) → View → View → Type 0
+GoesBack Done left after = after ≡ left
+GoesBack (Left slot needs) left after = after ≡ pushed left slot.meta slot.index
 
--- the block was taken out of its slot, which was pushed, and settled where the push left it
-pub record FreesIn {M P : Type 0} (keeps : Spare → Bool → Type 0) (runs : M → List mapper.Run) (before : Caller) (block : BlockToken)
-    (core core_after : State M P) (after : View) : Type 0 where
+-- the block was taken out of its slot, which was pushed, and went back where the push left it
+pub record Frees (before : Caller) (block : BlockToken) (after : View) : Type 0 where
   pub freed : Unlocked (Unit {0})
   pub left : View
   pub frees : FreesUnlocked before block freed left
   pub of_block : OnLeft freed (λ slot. slot ≡ block.slot)
-  pub settles : Settles keeps runs core core_after freed left after
+  pub back : GoesBack freed left after
+
+-- the core took a slot that the push left, and did nothing with one that was pushed
+abbrev pub Settles : {M P : Type 0} → (Spare → Bool → Type 0) → (M → List mapper.Run) → State M P → State M P → Unlocked (Unit {0}) → Type 0
+Settles keeps runs before after Done = after ≡ before
+Settles keeps runs before after (Left slot needs) = ReturnsOfHand keeps runs before after slot.meta slot.index
+
+-- the block was freed, and its slot was settled under the lock where the push left it
+pub record FreesIn {M P : Type 0} (keeps : Spare → Bool → Type 0) (runs : M → List mapper.Run) (before : Caller) (block : BlockToken)
+    (core core_after : State M P) (after : View) : Type 0 where
+  pub hand : Frees before block after
+  pub settles : Settles keeps runs core core_after hand.freed

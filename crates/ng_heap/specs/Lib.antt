@@ -2,4 +2,5 @@ pub mod Causes
 pub mod Freeing
 pub mod Keeps
 pub mod Making
+pub mod Trying
 pub mod Tests

@@ -1,13 +1,16 @@
 -- What a request comes to.
 use Rattle.std.specs.Prelude.{◌≡◌, ◌≢◌, ℕ, ◌-◌, ◌%◌, Result, Ok, Err}
-use Rattle.ng_group.specs.Hands.{GainsSlot}
+use Rattle.ng_group.specs.Hands.{GainsExcuse, GainsSlot}
+use Rattle.ng_terms.specs.Heap.{IsTooLarge}
 use Rattle.ng_terms.specs.Histories.{refusal_entry}
 use Rattle.ng_terms.specs.declared.entry.Entry.{Entry}
 use Rattle.ng_terms.specs.declared.entry.Entry.TheVariants.{Give}
 use Rattle.ng_terms.specs.declared.refusal.AllocRefusal.{AllocRefusal}
+use Rattle.ng_terms.specs.declared.refusal.AllocRefusal.TheVariants as refusal
 use Rattle.ng_space.specs.Blocks.{BlockToken, HasBlock, HasFramed, OfSlot}
 use Rattle.ng_space.specs.Callers.{Caller}
 use Rattle.ng_space.specs.Leaving.{Leaves}
+use Rattle.ng_space.specs.Passed.{EntersNoMemory}
 use Rattle.ng_view.specs.Frame.{IsGiven}
 use Rattle.ng_view.specs.Steps.{loaded}
 use Rattle.ng_view.specs.declared.view.View.{View}
@@ -27,12 +30,26 @@ pub record IsMade (n : ℕ) (before : Caller) (block : BlockToken) (after : Call
   pub fresh : IsFresh before block.slot
   pub apart : (other : BlockToken) → HasBlock before other → other.at ≢ block.at
 
--- the slot came; then the word in front of its start was loaded, and by the low half that was found
--- the block is where it belongs; since then nothing of the view changed but the slot, the book and
--- what was read
-pub record IsGivenNow (before : View) (block : BlockToken) (counter : ℕ) (after : Caller) : Type 0 where
-  pub came : View
-  pub gains : GainsSlot block.slot.meta block.slot.index before came
+-- the word in front of the slot's start was loaded, and by the low half that was found the block is where it belongs; since then
+-- nothing of the view changed but the slot, the book and what was read
+pub record IsPutBy (came : View) (block : BlockToken) (counter : ℕ) (after : Caller) : Type 0 where
   pub word : ℕ
   pub leaves : Leaves block.slot (loaded came (block.slot.start - 4) word) after.view
   pub given : OfSlot after block.slot (λ h. IsGiven h block.at block.len 16 (word % 4294967296) counter)
+
+-- the slot came, and then the block was put into it
+pub record IsGivenNow (before : View) (block : BlockToken) (counter : ℕ) (after : Caller) : Type 0 where
+  pub came : View
+  pub gains : GainsSlot block.slot.meta block.slot.index before came
+  pub puts : IsPutBy came block counter after
+
+-- the excuse of a refused map call came into the hand, and went with the entry of the request
+pub record SpendsExcuse (n : ℕ) (before : Caller) (excuse : ℕ) (after : View) : Type 0 where
+  pub came : View
+  pub gains : GainsExcuse excuse before.view came
+  pub enters : EntersNoMemory came before.number n excuse after
+
+-- no memory comes with the number of an excuse that came in this call; a request that is too large asks for none
+abbrev pub RefusesNow : ℕ → Caller → AllocRefusal → View → Type 0
+RefusesNow n before (refusal.NoMemory excuse) after = SpendsExcuse n before excuse after
+RefusesNow n before refusal.TooLarge after = IsTooLarge 1 n 16

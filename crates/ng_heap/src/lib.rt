@@ -4,6 +4,7 @@
 mod freeing;
 mod heap;
 mod malloc;
+mod quick;
 mod sending;
 mod shared;
 
@@ -13,10 +14,15 @@ pub use ng_frame::Damage;
 pub use ng_mask::Needs;
 pub use ng_space::Parcel;
 pub use ng_terms::AllocRefusal;
+pub use quick::Quick;
 pub use shared::SharedHeap;
 
 #[cfg(test)]
 mod area_tests;
+#[cfg(test)]
+mod lock_tests;
+#[cfg(test)]
+mod quick_tests;
 #[cfg(test)]
 mod shared_tests;
 #[cfg(test)]

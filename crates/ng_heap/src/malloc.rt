@@ -6,7 +6,7 @@ ghost use Rattle.ng_group.specs.Hands.{GainsExcuse, GainsSlot};
 ghost use Rattle.ng_group.specs.Steps.{GoesOn};
 ghost use Rattle.ng_heap.specs.Causes.{BuildsFor, HasRefusalCause};
 ghost use Rattle.ng_heap.specs.Keeps.{IsFresh};
-ghost use Rattle.ng_heap.specs.Making.{IsGivenNow, IsMade, malloc_entry};
+ghost use Rattle.ng_heap.specs.Making.{IsGivenNow, IsMade, RefusesNow, malloc_entry};
 ghost use Rattle.ng_space.specs.Blocks.{OfSlot, Serves};
 ghost use Rattle.ng_space.specs.Passed.{EntersNoMemory, HasExcuse};
 ghost use Rattle.ng_space.specs.Tokens.{HasSlot};
@@ -44,6 +44,7 @@ impl<N: Name> Heap<N> {
 
         ensures large { (result ≡ Err refusal.TooLarge) ↔ IsTooLarge 1 n 16 }
         ensures cause { IfErr result (HasRefusalCause (P.count_gives core.old.rules) M.refused core.old core.new n) }
+        ensures refuses { IfErr result (λ why. RefusesNow n hand.old why hand.new.view) }
 
         // What the hand and the core have besides.
         ensures entered { Entered hand.old hand.new (malloc_entry n result) }
@@ -54,14 +55,7 @@ impl<N: Name> Heap<N> {
         ensures rules { core.new.rules ≡ core.old.rules }
     {
         if n >= LARGE {
-            self.space.enter(
-                hand,
-                Entry::TooLarge {
-                    count: 1,
-                    size: n,
-                    align: 16,
-                },
-            );
+            self.enter_too_large(hand, n);
             return Err(AllocRefusal::TooLarge);
         }
         match self.slot_for(core, hand, n) {
@@ -71,6 +65,23 @@ impl<N: Name> Heap<N> {
             }
             Err(excuse) => Err(self.refuse(hand, n, excuse)),
         }
+    }
+
+    // Enters a request that is too large.
+    pub(crate) fn enter_too_large(&self, hand: &mut Hand<N>, n: u64)
+        requires spare { 1 ≤ hand.old.spare }
+        requires large { large ≤ n }
+        ensures entered { Entered hand.old hand.new (refusal_entry n refusal.TooLarge) }
+        ensures leaves { LeavesAll hand.old.view hand.new.view }
+    {
+        self.space.enter(
+            hand,
+            Entry::TooLarge {
+                count: 1,
+                size: n,
+                align: 16,
+            },
+        );
     }
 
     // Gets a slot for a block of n bytes: that of a group by itself, or one of the class that the core chooses.

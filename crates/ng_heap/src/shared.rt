@@ -1,7 +1,8 @@
 // A heap that threads share: its core stands behind a lock.
-ghost use Rattle.std.specs.Prelude.{◌≡◌, ◌<◌, ◌≤◌, ◌↔◌, ℕ, Err, IfErr, IfOk, IsOk};
+ghost use Rattle.std.specs.Prelude.{◌≡◌, ◌<◌, ◌≤◌, ◌↔◌, ℕ, Err, IfErr, IfOk, IsOk, OnOk};
 ghost use Rattle.ng_frame.specs.Inspects.{Refuses, free_entry};
-ghost use Rattle.ng_heap.specs.Making.{IsGivenNow, IsMade, malloc_entry};
+ghost use Rattle.ng_heap.specs.Freeing.{Frees};
+ghost use Rattle.ng_heap.specs.Making.{IsGivenNow, IsMade, RefusesNow, malloc_entry};
 ghost use Rattle.ng_space.specs.Blocks.{HasBlock, HasFramed};
 ghost use Rattle.ng_space.specs.Leaving.{Entered, KeepsBook, KeepsSlots, Leaves, LeavesAll};
 ghost use Rattle.ng_space.specs.Tokens.{HasSlot};
@@ -11,6 +12,7 @@ ghost use Rattle.ng_view.specs.Steps.{pushed};
 
 use crate::freeing::Unlocked;
 use crate::heap::Heap;
+use crate::quick::Quick;
 use ng_frame::Damage;
 use ng_group::Core;
 use ng_mapper::Mapper;
@@ -52,8 +54,8 @@ impl<N: Name, M: Mapper, P: Rules> SharedHeap<N, M, P> {
         (heap, core.into_inner())
     }
 
-    /// Gives a block of `n` bytes, aligned to 16, under the lock. The request is entered, also where it is
-    /// refused.
+    /// Gives a block of `n` bytes, aligned to 16, without the lock where the active group of their class has a
+    /// slot. The request is entered, also where it is refused.
     pub fn malloc<R: Wait>(
         &self,
         rt: &R,
@@ -65,14 +67,21 @@ impl<N: Name, M: Mapper, P: Rules> SharedHeap<N, M, P> {
         ensures made { IfOk result (λ block. IsMade n hand.old block hand.new) }
         ensures given { IfOk result (λ block. (counter : ℕ) × IsGivenNow hand.old.view block counter hand.new) }
         ensures large { (result ≡ Err refusal.TooLarge) ↔ IsTooLarge 1 n 16 }
+        ensures refuses { IfErr result (λ why. RefusesNow n hand.old why hand.new.view) }
 
         ensures entered { Entered hand.old hand.new (malloc_entry n result) }
         ensures leaves { IfOk result (λ block. Leaves block.slot hand.old.view hand.new.view) }
         ensures kept { IfErr result (λ why. LeavesAll hand.old.view hand.new.view) }
         ensures slots { KeepsSlots hand.old.view hand.new.view }
     {
-        let mut core = self.core.lock(rt);
-        self.heap.malloc_in(&mut core, hand, n)
+        match self.heap.malloc_unlocked(hand, n) {
+            Quick::Given(block) => Ok(block),
+            Quick::TooLarge => Err(AllocRefusal::TooLarge),
+            Quick::Large | Quick::Idle | Quick::Bare | Quick::Other { tag: _ } | Quick::Lost => {
+                let mut core = self.core.lock(rt);
+                self.heap.malloc_in(&mut core, hand, n)
+            }
+        }
     }
 
     /// Takes a block back, without the lock where its slot can go into the freed mask of its group. A block
@@ -91,6 +100,7 @@ impl<N: Name, M: Mapper, P: Rules> SharedHeap<N, M, P> {
         ensures cause { IfErr result (λ left. Refuses hand.old block left.1 hand.new) }
         ensures still { IfErr result (λ left. HasBlock hand.new left.0) }
         ensures kept { IfErr result (λ left. LeavesAll hand.old.view hand.new.view) }
+        ensures frees { OnOk result (Frees hand.old block hand.new.view) }
 
         ensures entered { Entered hand.old hand.new (free_entry block.at result) }
         ensures leaves { Leaves block.slot hand.old.view hand.new.view }

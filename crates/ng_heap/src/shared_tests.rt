@@ -21,7 +21,7 @@ use std::thread::{Threads, join};
 #[test]
 fn two_threads_share_a_heap(rt: HostRuntime) -> Result<(), Fail> {
     let alloc = rt.alloc();
-    let (blank, tables, mapper) = parts_for(alloc, &[4, 4])?;
+    let (blank, tables, mapper) = parts_for(alloc, &[8, 8])?;
     let rules = Policy::new(count, keep);
     share_in_two::<Brand, _, _>(&rt, alloc, blank, tables, mapper, rules)
 }
@@ -39,7 +39,7 @@ fn share_in_two<N: Name + Send + Sync, P: Rules + Send + Drop, R: Threads + Wait
     requires hands { N.facts.hands ≡ 2 }
     requires most { N.facts.most ≡ 0 }
     requires parts { AreParts blank tables mapper }
-    requires rooms { blank.rooms ≡ 4 ∷ 4 ∷ [] }
+    requires rooms { blank.rooms ≡ 8 ∷ 8 ∷ [] }
     requires good { P.good rules }
 {
     let Ok((heap, core, hands)) = Heap::<N>::open(alloc, blank, tables, mapper, Kept::new(rules))
@@ -67,10 +67,10 @@ fn share_in_two<N: Name + Send + Sync, P: Rules + Send + Drop, R: Threads + Wait
     Ok(())
 }
 
-fn two_hands<N: Name>(mut hands: Vec<Hand<N>>) -> (Hand<N>, Hand<N>)
-    requires { hands.items ≡ fresh_callers 1 (4 ∷ 4 ∷ []) }
-    ensures first { result.0 ≡ fresh_caller 1 4 }
-    ensures second { result.1 ≡ fresh_caller 2 4 }
+pub(crate) fn two_hands<N: Name>(mut hands: Vec<Hand<N>>) -> (Hand<N>, Hand<N>)
+    requires { hands.items ≡ fresh_callers 1 (8 ∷ 8 ∷ []) }
+    ensures first { result.0 ≡ fresh_caller 1 8 }
+    ensures second { result.1 ≡ fresh_caller 2 8 }
 {
     let Some(second) = hands.pop() else {
         unreachable!()

@@ -22,10 +22,10 @@ use std::test::Fail;
 
 const PAGES: u32 = 4096;
 
-const ROOM: u64 = 2000;
+pub(crate) const ROOM: u64 = 2000;
 
 // The memory of a heap with one hand and of its core, and a mapper that refuses no call.
-fn parts(alloc: Global) -> Result<(Blank, Tables, FirstFit), Host>
+pub(crate) fn parts(alloc: Global) -> Result<(Blank, Tables, FirstFit), Host>
     ensures parts { IfOk result (λ made. AreParts made.0 made.1 made.2) }
     ensures rooms { IfOk result (λ made. made.0.rooms ≡ ROOM ∷ []) }
 {
@@ -53,7 +53,7 @@ pub(crate) fn parts_for(alloc: Global, rooms: &[u64]) -> Result<(Blank, Tables, 
 }
 
 // The heap, its core and its hand.
-fn begin<N: Name, P: Rules + Drop>(
+pub(crate) fn begin<N: Name, P: Rules + Drop>(
     alloc: Global,
     blank: Blank,
     tables: Tables,
@@ -93,7 +93,7 @@ pub(crate) fn keep(spare: Spare) -> bool {
 }
 
 // A block of n bytes, which begins there.
-fn given<N: Name, P: Rules, R: Abort>(
+pub(crate) fn given<N: Name, P: Rules, R: Abort>(
     rt: &R,
     heap: &Heap<N>,
     core: &mut Core<N, FirstFit, P>,
@@ -162,7 +162,7 @@ fn assert_legal<R: Abort>(rt: &R, live: &mut Live, entries: &[Entry])
 }
 
 // The heap ends, with so many entries in the book of its hand.
-fn end<N: Name, P: Rules + Drop, R: Abort>(
+pub(crate) fn end<N: Name, P: Rules + Drop, R: Abort>(
     rt: &R,
     alloc: Global,
     heap: Heap<N>,

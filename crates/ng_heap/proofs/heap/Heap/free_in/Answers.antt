@@ -55,11 +55,11 @@ returns-clause-frees g c =
     elim c.match-branch-2.branch [
       | in-Done w ↦
           let view = ap (λ (hand : Caller). hand.view) w.hand-is in
-          done_frees keep runs old c.args.block core end.core answer mid end.hand.view frees freed.ensures.left w.in-Done.is w.core-is view
+          done_frees old c.args.block answer mid end.hand.view frees freed.ensures.left keep runs core end.core w.in-Done.is w.core-is view
       | in-Left w ↦
           let slot = w.in-Left.slot in
           let view : c.match-branch-2.hand.view ≡ pushed mid slot.meta slot.index = ap (λ (hand : Caller). hand.view) w.hand-is ∙ w.settle_in.ensures.view in
-          left_frees keep runs old c.args.block core end.core answer mid end.hand.view frees freed.ensures.left slot w.in-Left.field-1 w.in-Left.is
+          left_frees old c.args.block answer mid end.hand.view frees freed.ensures.left keep runs core end.core slot w.in-Left.field-1 w.in-Left.is
           (subst (λ (s : State g.row.M.Denot g.row.P.Denot). ReturnsOfHand keep runs core s slot.meta slot.index) (sym w.core-is) w.settle_in.ensures.returns)
           view
     ]

@@ -1,24 +1,21 @@
 use Rattle.std.proofs.Common.{sym, ap, subst}
 use Rattle.ng_frame.specs.Puts.{Cycles}
-use Rattle.ng_frame.proofs.Tokens.{block_stays}
 use Rattle.ng_space.specs.Blocks.{BlockToken}
+use Rattle.ng_space.specs.Callers.{Caller}
 use Rattle.ng_space.specs.Leaving.{Leaves, LeavesAll}
+use Rattle.ng_space.specs.Passed.{EntersNoMemory}
 use Rattle.ng_space.specs.Tokens.{Token}
-use Rattle.ng_space.proofs.LeavingFrames.{leaves_entered}
 use Rattle.ng_view.specs.declared.view.View.{View}
-use Rattle.ng_heap.specs.Keeps.{IsFresh}
-use Rattle.ng_heap.proofs.PutLemmas.{given_now, lies_then, put_builds, put_leaves, still_serves}
-use Rattle.ng_heap.proofs.SlotLemmas.{gained_leaves, refused_leaves}
+use Rattle.ng_heap.specs.Making.{RefusesNow}
+use Rattle.ng_heap.proofs.PutLemmas.{given_now, lies_then, made_now, put_builds, put_by, put_leaves, still_serves}
+use Rattle.ng_heap.proofs.SlotLemmas.{refused_leaves}
 use Rattle.ng_heap.proofs.StayLemmas.{fresh_slots}
 use Rattle.ng_heap.proofs.heap.Heap.malloc_in.Given.{Over}
 use Rattle.ng_heap.proofs.heap.Heap.malloc_in.Goals as goal
 
 -- ---- a request that is too large
-pub returns-then-n-ge-LARGE-clause-kept : goal.returns-then-n-ge-LARGE-clause-kept
-returns-then-n-ge-LARGE-clause-kept g c = leaves_entered c.args.hand.now.view c.enter.new.hand.view _ _ c.enter.ensures.view
-
 pub returns-then-n-ge-LARGE-clause-slots : goal.returns-then-n-ge-LARGE-clause-slots
-returns-then-n-ge-LARGE-clause-slots g c = (leaves_entered c.args.hand.now.view c.enter.new.hand.view _ _ c.enter.ensures.view).all.slots
+returns-then-n-ge-LARGE-clause-slots g c = c.enter_too_large.ensures.leaves.all.slots
 
 -- ---- a block
 -- the slot is found where it was once the word in front of its start was loaded
@@ -37,30 +34,22 @@ returns-in-Ok-clause-builds g c =
 
 pub returns-in-Ok-clause-given : goal.returns-in-Ok-clause-given
 returns-in-Ok-clause-given g c =
-    let offset = c.next_offset-offset in
     let came : View = c.slot_for.new.hand.view in
+    let offset = c.next_offset-offset in
     let cycles = subst (λ k. Cycles came c.in-Ok.slot c.args.n k offset.result offset.new.hand.view) c.counter.ensures offset.ensures.cycles in
-    given_now c.args.hand.now.view came offset.new.hand.view c.put.new.hand c.in-Ok.slot c.args.n c.slot_for.new.core.counter
-    offset.result c.put.result c.put.ensures.block c.in-Ok.ensures.gains cycles offset.ensures.near c.put.ensures.leaves c.put.ensures.framed
+    let put = c.put.ensures in
+    given_now c.args.hand.now.view came c.put.new.hand c.in-Ok.slot c.args.n c.slot_for.new.core.counter offset.result c.put.result put.block
+    c.in-Ok.ensures.gains
+    (put_by came offset.new.hand.view c.put.new.hand c.in-Ok.slot c.args.n c.slot_for.new.core.counter offset.result c.put.result put.block
+    cycles offset.ensures.near put.leaves put.framed)
 
 -- the slot had no block, and each other block stays until the put
 pub returns-in-Ok-clause-made : goal.returns-in-Ok-clause-made
 returns-in-Ok-clause-made g c =
-    let is = c.put.ensures.block in
-    let came = c.slot_for.new.hand in
     let offset = c.next_offset-offset in
-    let fresh = c.in-Ok.ensures.fresh in
-    let gained = gained_leaves c.in-Ok.slot c.args.hand.now.view came.view c.in-Ok.ensures.gains in record {
-      len = ap (λ (b : BlockToken). b.len) is;
-      align = ap (λ (b : BlockToken). b.align) is;
-      framed = c.put.ensures.framed;
-      fresh = subst (λ (b : BlockToken). IsFresh c.args.hand.now b.slot) (sym is) fresh;
-      apart = λ other has.
-          let stays = gained.others.slots other.slot.meta other.slot.index (fresh.blocks other has) in
-          let there = block_stays c.args.hand.now came c.in-Ok.ensures.book.number other stays has in
-          let still = block_stays came offset.new.hand offset.ensures.book.number other (offset.ensures.leaves.all.slots other.slot.meta other.slot.index) there in
-          c.put.ensures.apart other still;
-    }
+    let put = c.put.ensures in
+    made_now c.args.hand.now c.slot_for.new.hand offset.new.hand c.put.new.hand c.in-Ok.slot c.args.n offset.result c.put.result put.block
+    c.in-Ok.ensures.fresh c.in-Ok.ensures.gains c.in-Ok.ensures.book.number offset.ensures.book.number offset.ensures.leaves put.apart put.framed
 
 leaves : (g : Over) (c : goal.After-put g) → Leaves c.in-Ok.slot c.args.hand.now.view c.put.new.hand.view
 leaves g c =
@@ -84,3 +73,13 @@ returns-in-Err-clause-kept g c = refused g c
 
 pub returns-in-Err-clause-slots : goal.returns-in-Err-clause-slots
 returns-in-Err-clause-slots g c = (refused g c).all.slots
+
+pub returns-in-Err-clause-refuses : goal.returns-in-Err-clause-refuses
+returns-in-Err-clause-refuses g c =
+    let old : Caller = c.args.hand.now in
+    let new : View = c.refuse.new.hand.view in
+    let excuse = c.in-Err.excuse.number in
+    let enters : EntersNoMemory c.slot_for.new.hand.view old.number c.args.n excuse new =
+    subst (λ k. EntersNoMemory c.slot_for.new.hand.view k c.args.n excuse new) c.in-Err.ensures.book.number c.refuse.ensures.view in
+    subst (λ why. RefusesNow c.args.n old why new) (sym c.refuse.ensures.why)
+    (record { came = c.slot_for.new.hand.view; gains = c.in-Err.ensures.excused; enters = enters })

@@ -1,4 +1,4 @@
-use Rattle.std.proofs.Common.{◌≡◌, sym, subst}
+use Rattle.std.proofs.Common.{◌≡◌, ◌∙◌, sym, ap, subst}
 use Rattle.ng_frame.specs.Inspects.{free_entry}
 use Rattle.ng_terms.specs.declared.entry.Entry.{Entry}
 use Rattle.ng_terms.specs.declared.entry.Entry.TheVariants.{Take}
@@ -7,7 +7,7 @@ use Rattle.ng_space.specs.Leaving.{Entered, Leaves}
 use Rattle.ng_space.proofs.LeavingFrames.{entered_then, leaves_then}
 use Rattle.ng_space.specs.Tokens.{Token}
 use Rattle.ng_view.specs.declared.view.View.{View}
-use Rattle.ng_heap.proofs.FreeLemmas.{left_is}
+use Rattle.ng_heap.proofs.FreeLemmas.{done_back, left_back, left_is}
 use Rattle.ng_heap.proofs.shared.SharedHeap.free.Goals as goal
 use Rattle.ng_heap.proofs.shared.SharedHeap.free.Goals.{Joined-branch-2, in-Done, in-Left}
 
@@ -35,4 +35,20 @@ returns-clause-entered g c =
     elim c.match-branch-2.branch [
       | in-Done w ↦ subst (λ (hand : Caller). Entered old hand entry) (sym w.hand-is) freed
       | in-Left w ↦ subst (λ (hand : Caller). Entered old hand entry) (sym w.hand-is) (entered_then freed w.settle.ensures.book)
+    ]
+
+pub returns-clause-frees : goal.returns-clause-frees
+returns-clause-frees g c =
+    let old : Caller = c.args.hand.now in
+    let mid : View = c.free_unlocked.new.hand.view in
+    let freed = c.in_ok-free_unlocked in
+    let answer = freed.field-0 in
+    let frees = freed.ensures.frees in
+    let end : View = c.match-branch-2.hand.view in
+    elim c.match-branch-2.branch [
+      | in-Done w ↦
+          done_back old c.args.block answer mid end frees freed.ensures.left w.in-Done.is (ap (λ (hand : Caller). hand.view) w.hand-is)
+      | in-Left w ↦
+          left_back old c.args.block answer mid end frees freed.ensures.left w.in-Left.slot w.in-Left.field-1 w.in-Left.is
+          (ap (λ (hand : Caller). hand.view) w.hand-is ∙ w.settle.ensures.view)
     ]
