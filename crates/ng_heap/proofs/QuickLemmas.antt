@@ -137,13 +137,16 @@ reads_missed n old looked after meta class answer none loads looks cause book =
 -- the block was given by the counter
 pub active_given : (n : ℕ) (old : Caller) (block : BlockToken) (after : Caller) → GivesActive n old block after
     → (counter : ℕ) × IsGivenNow old.view block counter after
-active_given n old block after gives = (gives.counter, record {
-  came = gives.counted;
-  gains = gains_then block.slot.meta block.slot.index old.view gives.won gives.counted
-      (gains_after block.slot.meta block.slot.index old.view p.looked gives.won looks.learns
-      (hands.won p.meta p.class p.looked (at gives.won) block.slot p.pops gives.of_meta)) counts.learns;
-  puts = gives.puts;
-})
+active_given n old block after gives = (
+  gives.counter,
+  record {
+    came = gives.counted;
+    gains = gains_then block.slot.meta block.slot.index old.view gives.won gives.counted
+        (gains_after block.slot.meta block.slot.index old.view p.looked gives.won looks.learns
+        (hands.won p.meta p.class p.looked (at gives.won) block.slot p.pops gives.of_meta)) counts.learns;
+    puts = gives.puts;
+  },
+)
   where
     p : PopsActive {X = Unit {0}} n (pop.Won block.slot) old.view gives.won
     p = gives.pops

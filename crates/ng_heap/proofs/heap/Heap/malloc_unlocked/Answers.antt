@@ -49,7 +49,7 @@ pop-requires-clause-place g c = ⊎_elim (λ none. absurd (c.if-meta-eq0.false n
 -- ---- a slot was won
 wins : (g : Over) (c : After-counter-counter g)
     → WinsActive c.args.n c.args.hand.now c.active-meta.new.hand c.pop.new.hand c.counter-counter.new.hand c.active-meta.result c.in-Some.class
-        c.counter-counter.result c.in-Won.slot
+    c.counter-counter.result c.in-Won.slot
 wins g c = record {
   loads = loads g c.before.before.before.before.before.before;
   some = c.if-meta-eq0.false;
