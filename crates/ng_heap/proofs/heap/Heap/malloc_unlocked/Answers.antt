@@ -1,4 +1,4 @@
-use Rattle.std.proofs.Common.{◌≡◌, ◌≢◌, ◌⊎◌, ℕ, ◌<◌, ◌≤◌, ◌∙◌, refl, sym, ap, subst, ⊎_elim, inl, inr, arith}
+use Rattle.std.proofs.Common.{◌≡◌, ◌≢◌, ◌⊎◌, ℕ, ◌+◌, ◌*◌, ◌<◌, ◌≤◌, ◌∙◌, refl, sym, ap, subst, ⊎_elim, inl, inr, arith}
 use Rattle.ng_mask.specs.declared.outcome.Pop.TheVariants as pop
 use Rattle.ng_terms.specs.declared.entry.Entry.TheVariants.{Give}
 use Rattle.ng_frame.specs.Puts.{Cycles}
@@ -6,8 +6,8 @@ use Rattle.ng_space.specs.Blocks.{BlockToken}
 use Rattle.ng_space.specs.Callers.{Caller}
 use Rattle.ng_space.specs.Leaving.{Leaves}
 use Rattle.ng_space.specs.Tokens.{Token}
+use Rattle.ng_view.specs.Steps.{loaded}
 use Rattle.ng_view.specs.declared.view.View.{View}
-use Rattle.ng_heap.specs.Making.{IsPutBy}
 use Rattle.ng_heap.specs.Trying.{LoadsActive, OnlyReads}
 use Rattle.ng_heap.proofs.PutLemmas.{made_now, put_by, put_leaves, still_serves}
 use Rattle.ng_heap.proofs.QuickLemmas.{WinsActive, book_came, class_small, for_request, gains_came, gives_active, has_came, is_fresh, reads_missed, serves_came}
@@ -28,13 +28,20 @@ pub returns-in_default-clause-slots : goal.returns-in_default-clause-slots
 returns-in_default-clause-slots g c = (learns_leaves _ _ (reads_none c.args.hand.now).learns).all.slots
 
 -- ---- the active word
+pub returns-then-meta-eq0-clause-cause : goal.returns-then-meta-eq0-clause-cause
+returns-then-meta-eq0-clause-cause g c = record {
+  class = c.in-Some.class;
+  loads = record {
+    small = class_small c.class_of.result c.in-Some.class c.args.n c.in-Some.is c.class_of.ensures.none;
+    least = c.in-Some.ensures.least;
+    view = c.active-meta.ensures.view
+        ∙ ap (loaded c.args.hand.now.view (4 * (c.in-Some.class + 1))) c.if-meta-eq0.true;
+  };
+}
+
 loads : (g : Over) (c : After-active-meta g)
     → LoadsActive c.args.n c.in-Some.class c.active-meta.result c.args.hand.now.view c.active-meta.new.hand.view
 loads g c = record { small = class_small c.class_of.result c.in-Some.class c.args.n c.in-Some.is c.class_of.ensures.none; least = c.in-Some.ensures.least; view = c.active-meta.ensures.view }
-
-pub returns-then-meta-eq0-clause-cause : goal.returns-then-meta-eq0-clause-cause
-returns-then-meta-eq0-clause-cause g c =
-    record { class = c.in-Some.class; loads = subst (λ m. LoadsActive c.args.n c.in-Some.class m c.args.hand.now.view c.active-meta.new.hand.view) c.if-meta-eq0.true (loads g c.before) }
 
 pub returns-then-meta-eq0-clause-leaves : goal.returns-then-meta-eq0-clause-leaves
 returns-then-meta-eq0-clause-leaves g c =
@@ -45,75 +52,6 @@ returns-then-meta-eq0-clause-slots g c = c.active-meta.ensures.leaves.all.slots
 
 pub pop-requires-clause-place : goal.pop-requires-clause-place
 pop-requires-clause-place g c = ⊎_elim (λ none. absurd (c.if-meta-eq0.false none)) (λ place. place) c.active-meta.ensures.place
-
--- ---- a slot was won
-wins : (g : Over) (c : After-counter-counter g)
-    → WinsActive c.args.n c.args.hand.now c.active-meta.new.hand c.pop.new.hand c.counter-counter.new.hand c.active-meta.result c.in-Some.class
-    c.counter-counter.result c.in-Won.slot
-wins g c = record {
-  loads = loads g c.before.before.before.before.before.before;
-  some = c.if-meta-eq0.false;
-  looks = c.active-meta.ensures.book;
-  wins = c.in-Won.ensures.cause;
-  of_meta = c.in-Won.ensures.meta;
-  has = c.in-Won.ensures.won;
-  once = c.in-Won.ensures.once;
-  book = record { number = c.pop.ensures.number; spare = c.pop.ensures.spare; entries = c.pop.ensures.entries };
-  counts = c.counter-counter.ensures.view;
-  still = c.counter-counter.ensures.book;
-}
-
-pub next_offset-offset-requires-clause-slot : goal.next_offset-offset-requires-clause-slot
-next_offset-offset-requires-clause-slot g c = has_came _ _ _ _ _ _ _ _ _ (wins g c.before.before.before)
-
-pub next_offset-offset-requires-clause-fits : goal.next_offset-offset-requires-clause-fits
-next_offset-offset-requires-clause-fits g c = (for_request _ _ _ _ _ _ _ _ _ (wins g c.before.before.before)).roomy
-
-pub put-requires-clause-serves : goal.put-requires-clause-serves
-put-requires-clause-serves g c =
-    let offset = c.next_offset-offset in
-    still_serves c.counter-counter.new.hand offset.new.hand c.in-Won.slot c.args.n (has_came _ _ _ _ _ _ _ _ _ (wins g c.before.before.before.before.before)) offset.ensures.leaves
-    (serves_came _ _ _ _ _ _ _ _ _ (wins g c.before.before.before.before.before))
-
-puts : (g : Over) (c : After-put g) → IsPutBy c.counter-counter.new.hand.view c.put.result c.counter-counter.result c.put.new.hand
-puts g c =
-    let offset = c.next_offset-offset in
-    let put = c.put.ensures in
-    let cycles = subst (λ k. Cycles c.counter-counter.new.hand.view c.in-Won.slot c.args.n k offset.result offset.new.hand.view) c.from.ensures offset.ensures.cycles in
-    put_by c.counter-counter.new.hand.view offset.new.hand.view c.put.new.hand c.in-Won.slot c.args.n c.counter-counter.result offset.result c.put.result
-    put.block cycles offset.ensures.near put.leaves put.framed
-
-pub returns-in-Won-clause-cause : goal.returns-in-Won-clause-cause
-returns-in-Won-clause-cause g c =
-    let offset = c.next_offset-offset in
-    gives_active _ _ _ _ _ _ _ _ _ (wins g c.before.before.before.before.before.before) offset.new.hand c.put.new.hand offset.result c.put.result c.put.ensures.block
-    offset.ensures.leaves c.put.ensures.still (puts g c)
-
-pub returns-in-Won-clause-made : goal.returns-in-Won-clause-made
-returns-in-Won-clause-made g c =
-    let offset = c.next_offset-offset in
-    let put = c.put.ensures in
-    let won = wins g c.before.before.before.before.before.before in
-    made_now c.args.hand.now c.counter-counter.new.hand offset.new.hand c.put.new.hand c.in-Won.slot c.args.n offset.result c.put.result put.block
-    (is_fresh _ _ _ _ _ _ _ _ _ won) (gains_came _ _ _ _ _ _ _ _ _ won) (book_came _ _ _ _ _ _ _ _ _ won).number
-    offset.ensures.book.number offset.ensures.leaves put.apart put.framed
-
-leaves : (g : Over) (c : After-put g) → Leaves c.in-Won.slot c.args.hand.now.view c.put.new.hand.view
-leaves g c =
-    put_leaves c.in-Won.slot c.args.hand.now.view c.counter-counter.new.hand.view c.next_offset-offset.new.hand.view c.put.new.hand.view
-    (gains_came _ _ _ _ _ _ _ _ _ (wins g c.before.before.before.before.before.before)) c.next_offset-offset.ensures.leaves c.put.ensures.leaves
-
-pub returns-in-Won-clause-leaves : goal.returns-in-Won-clause-leaves
-returns-in-Won-clause-leaves g c =
-    let found : Caller = c.next_offset-offset.new.hand in
-    let book = book_then c.args.hand.now c.counter-counter.new.hand found (book_came _ _ _ _ _ _ _ _ _ (wins g c.before.before.before.before.before.before)) c.next_offset-offset.ensures.book in (
-      entered_since c.args.hand.now found c.put.new.hand (Give c.args.n 16 c.put.result.at) book c.put.ensures.entered,
-      subst (λ (b : BlockToken). Leaves b.slot c.args.hand.now.view c.put.new.hand.view) (sym c.put.ensures.block) (leaves g c),
-    )
-
-pub returns-in-Won-clause-slots : goal.returns-in-Won-clause-slots
-returns-in-Won-clause-slots g c =
-    fresh_slots c.args.hand.now c.in-Won.slot (is_fresh _ _ _ _ _ _ _ _ _ (wins g c.before.before.before.before.before.before)) c.put.new.hand.view (leaves g c).others
 
 -- ---- none was won
 missed : (g : Over) (c : After-pop g)
@@ -170,3 +108,71 @@ returns-in-Lost-clause-leaves g c = missed g c.before (inr (inr c.in-Lost.is))
 
 pub returns-in-Lost-clause-slots : goal.returns-in-Lost-clause-slots
 returns-in-Lost-clause-slots g c = (learns_leaves _ _ (missed g c.before (inr (inr c.in-Lost.is))).learns).all.slots
+
+-- ---- a slot was won
+wins : (g : Over) (c : After-counter-counter g)
+    → WinsActive c.args.n c.args.hand.now c.active-meta.new.hand c.pop.new.hand c.counter-counter.new.hand c.active-meta.result c.in-Some.class
+    c.counter-counter.result c.in-Won.slot
+wins g c = record {
+  loads = loads g c.before.before.before.before.before.before;
+  some = c.if-meta-eq0.false;
+  looks = c.active-meta.ensures.book;
+  wins = c.in-Won.ensures.cause;
+  of_meta = c.in-Won.ensures.meta;
+  has = c.in-Won.ensures.won;
+  once = c.in-Won.ensures.once;
+  book = record { number = c.pop.ensures.number; spare = c.pop.ensures.spare; entries = c.pop.ensures.entries };
+  counts = c.counter-counter.ensures.view;
+  still = c.counter-counter.ensures.book;
+}
+
+pub next_offset-offset-requires-clause-slot : goal.next_offset-offset-requires-clause-slot
+next_offset-offset-requires-clause-slot g c = has_came _ _ _ _ _ _ _ _ _ (wins g c.before.before.before)
+
+pub next_offset-offset-requires-clause-fits : goal.next_offset-offset-requires-clause-fits
+next_offset-offset-requires-clause-fits g c = (for_request _ _ _ _ _ _ _ _ _ (wins g c.before.before.before)).roomy
+
+pub put-requires-clause-serves : goal.put-requires-clause-serves
+put-requires-clause-serves g c =
+    let offset = c.next_offset-offset in
+    still_serves c.counter-counter.new.hand offset.new.hand c.in-Won.slot c.args.n (has_came _ _ _ _ _ _ _ _ _ (wins g c.before.before.before.before.before)) offset.ensures.leaves
+    (serves_came _ _ _ _ _ _ _ _ _ (wins g c.before.before.before.before.before))
+
+pub returns-in-Won-clause-cause : goal.returns-in-Won-clause-cause
+returns-in-Won-clause-cause g c =
+    let came : View = c.counter-counter.new.hand.view in
+    let counter = c.counter-counter.result in
+    let slot : Token = c.in-Won.slot in
+    let offset = c.next_offset-offset in
+    let put = c.put.ensures in
+    let cycles = subst (λ k. Cycles came slot c.args.n k offset.result offset.new.hand.view) c.from.ensures offset.ensures.cycles in
+    let puts = put_by came offset.new.hand.view c.put.new.hand slot c.args.n counter offset.result c.put.result put.block
+    cycles offset.ensures.near put.leaves put.framed in
+    gives_active _ _ _ _ _ _ _ _ _ (wins g c.before.before.before.before.before.before) offset.new.hand c.put.new.hand offset.result c.put.result
+    put.block offset.ensures.leaves put.still puts
+
+pub returns-in-Won-clause-made : goal.returns-in-Won-clause-made
+returns-in-Won-clause-made g c =
+    let offset = c.next_offset-offset in
+    let put = c.put.ensures in
+    let won = wins g c.before.before.before.before.before.before in
+    made_now c.args.hand.now c.counter-counter.new.hand offset.new.hand c.put.new.hand c.in-Won.slot c.args.n offset.result c.put.result put.block
+    (is_fresh _ _ _ _ _ _ _ _ _ won) (gains_came _ _ _ _ _ _ _ _ _ won) (book_came _ _ _ _ _ _ _ _ _ won).number
+    offset.ensures.book.number offset.ensures.leaves put.apart put.framed
+
+leaves : (g : Over) (c : After-put g) → Leaves c.in-Won.slot c.args.hand.now.view c.put.new.hand.view
+leaves g c =
+    put_leaves c.in-Won.slot c.args.hand.now.view c.counter-counter.new.hand.view c.next_offset-offset.new.hand.view c.put.new.hand.view
+    (gains_came _ _ _ _ _ _ _ _ _ (wins g c.before.before.before.before.before.before)) c.next_offset-offset.ensures.leaves c.put.ensures.leaves
+
+pub returns-in-Won-clause-leaves : goal.returns-in-Won-clause-leaves
+returns-in-Won-clause-leaves g c =
+    let found : Caller = c.next_offset-offset.new.hand in
+    let book = book_then c.args.hand.now c.counter-counter.new.hand found (book_came _ _ _ _ _ _ _ _ _ (wins g c.before.before.before.before.before.before)) c.next_offset-offset.ensures.book in (
+      entered_since c.args.hand.now found c.put.new.hand (Give c.args.n 16 c.put.result.at) book c.put.ensures.entered,
+      subst (λ (b : BlockToken). Leaves b.slot c.args.hand.now.view c.put.new.hand.view) (sym c.put.ensures.block) (leaves g c),
+    )
+
+pub returns-in-Won-clause-slots : goal.returns-in-Won-clause-slots
+returns-in-Won-clause-slots g c =
+    fresh_slots c.args.hand.now c.in-Won.slot (is_fresh _ _ _ _ _ _ _ _ _ (wins g c.before.before.before.before.before.before)) c.put.new.hand.view (leaves g c).others
