@@ -4,7 +4,9 @@ use Rattle.ng_heap.specs.Tests.{MayClose}
 use Rattle.ng_heap.proofs.TestLemmas.{quick_may}
 use Rattle.ng_heap.proofs.quick_tests.given_at.Goals as goal
 
-pub returns-clause-closes : goal.returns-clause-closes
-returns-clause-closes g c = λ seat may.
-    subst (λ (hand : Caller). MayClose seat hand) (sym c.leave.ensures)
-    (quick_may 20 c.args.hand.now c.malloc_unlocked.result c.malloc_unlocked.new.hand c.malloc_unlocked.ensures.leaves seat may)
+pub returns : goal.returns
+returns g c = record {
+  closes = λ seat may.
+      subst (λ (hand : Caller). MayClose seat hand) (sym c.leave.ensures)
+      (quick_may 20 c.args.hand.now c.malloc_unlocked.result c.malloc_unlocked.new.hand c.malloc_unlocked.ensures.leaves seat may);
+}
