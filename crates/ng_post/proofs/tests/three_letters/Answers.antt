@@ -1,4 +1,4 @@
-use Rattle.std.proofs.Common.{◌≡◌, ◌∙◌, ◌<◌, ◌≤◌, ◌==◌, ◌∷◌, ◌++◌, ◌||◌, [], zero, suc, ℕ, List, None, ap, arith, get_or, length, map, refl, rules, subst, sym, true}
+use Rattle.std.proofs.Common.{◌≡◌, ◌∙◌, ◌<◌, ◌≤◌, ◌==◌, ◌∷◌, ◌++◌, ◌||◌, [], zero, suc, ℕ, List, None, ap, arith, get_or, length, map, refl, rules, subst, sym}
 use Rattle.std.specs.Prelude.{count_by}
 use Rattle.std.specs.List.{list_any}
 use Rattle.std.specs.declared.marker.Brand.{Brand}

@@ -1,8 +1,7 @@
-use Rattle.std.proofs.Common.{◌≡◌, ℕ, ◌+◌, ◌*◌, ◌/◌, ◌<◌, ◌⊎◌, inl, inr, ⊎_elim, sym, subst, arith}
+use Rattle.std.proofs.Common.{◌≡◌, ◌+◌, ◌*◌, ◌/◌, ◌<◌, ⊎_elim, subst, arith}
 use Rattle.ng_meta.specs.Place.{IsMetaPlace}
 use Rattle.ng_view.specs.LockSteps.{active_set}
 use Rattle.ng_view.specs.May.{May}
-use Rattle.ng_view.specs.declared.view.View.{View}
 use Rattle.ng_rule.proofs.lock.LockNotes.{active_may}
 use Rattle.ng_space.proofs.Annotated.{active_stays}
 use Rattle.ng_space.proofs.space.Space.set_active.Goals as goal
