@@ -51,7 +51,7 @@ unfolding parts_at
 parts_of-front line rest first others unfed is = split_front (λ byte. byte == 10) line rest first others unfed is
 
 -- more bytes stay beyond the limits
-is_beyond-append : (number : ℕ) (a b : List ℕ) → is_beyond number a ≡ true → is_beyond number (a ++ b) ≡ true
+pub is_beyond-append : (number : ℕ) (a b : List ℕ) → is_beyond number a ≡ true → is_beyond number (a ++ b) ≡ true
 is_beyond-append number a b beyond =
     ⊎_elim
     (λ many. rw many refl)
@@ -70,7 +70,7 @@ beyond_first lines sections inside (byte ∷ bytes) [] beyond some = rw beyond r
 beyond_first lines sections inside first (next ∷ parts) beyond some = rw beyond refl
 
 -- a line of two parts
-joined-unfed : (line part : List ℕ) → IsWithout 10 line → IsWithout 10 part → IsWithout 10 (line ++ part)
+pub joined-unfed : (line part : List ℕ) → IsWithout 10 line → IsWithout 10 part → IsWithout 10 (line ++ part)
 joined-unfed line part unfed fresh = All-append (λ byte. (byte == 10) ≡ false) line part unfed fresh
 
 -- bytes beyond the limits, whatever comes

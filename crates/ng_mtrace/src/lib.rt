@@ -27,6 +27,8 @@ pub use logs::read_logs;
 pub use ng_terms::Items;
 pub use output::Output;
 pub use stream::{Failed, Sink, Source};
+pub use text::{cut_at, is_word};
+pub use token::last_token;
 pub use writing::write_all;
 
 #[cfg(test)]

@@ -54,3 +54,17 @@ ops_are turns log lines owns taken given ops owns_are taken_long given_long long
     ∙ ap (λ (g : Option ℕ). op_of (line_at lines k) (own (take k lines) (line_at lines k)) (number_of (takers_of turns) (record { log = log; op = k })) g) (makers.each k (omega arith))
     ∙ ap (λ (n : ℕ). op_with turns (take k lines) (line_at lines k) (record { log = log; op = n })) (sym (zero-add k))
     ∙ sym (op_at turns log [] lines k d inside))
+
+-- without hand-offs no op has a number
+pub own_ops_are : (turns : Turns) (log : ℕ) (lines : List Line) (owns : List (Option ℕ)) (ops : List Op) → owns ≡ owns_of lines → length ops ≡ length lines → ((k : ℕ) (op : Op) → k < length lines → get_or ops k op ≡ op_of (line_at lines k) (get_or owns k None) None None) → takers_of turns ≡ [] → makers_of turns ≡ [] → ops ≡ ops_of turns log lines
+own_ops_are turns log lines owns ops owns_are long each takers makers =
+    same_lists ops (ops_of turns log lines) (long ∙ sym (length-ops turns log [] lines))
+    (λ k d within.
+    let inside : k < length lines = omega arith in
+    let place : Place = record { log = log; op = k } in
+    each k d inside
+    ∙ ap (λ (o : Option ℕ). op_of (line_at lines k) o None None) (ap (λ (os : List (Option ℕ)). get_or os k None) owns_are ∙ own_at [] lines k inside)
+    ∙ ap (λ (places : List Place). op_of (line_at lines k) (own (take k lines) (line_at lines k)) (number_of places place) None) (sym takers)
+    ∙ ap (λ (places : List Place). op_of (line_at lines k) (own (take k lines) (line_at lines k)) (number_of (takers_of turns) place) (number_of places place)) (sym makers)
+    ∙ ap (λ (n : ℕ). op_with turns (take k lines) (line_at lines k) (record { log = log; op = n })) (sym (zero-add k))
+    ∙ sym (op_at turns log [] lines k d inside))

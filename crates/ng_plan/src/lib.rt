@@ -11,6 +11,7 @@ mod planning;
 mod queues;
 mod rounds;
 mod schedule;
+mod slots;
 mod step;
 mod steps;
 

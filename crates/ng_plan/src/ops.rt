@@ -1,4 +1,4 @@
-ghost use Rattle.std.specs.Prelude.{◌≡◌, List, ℕ, length, IfOk};
+ghost use Rattle.std.specs.Prelude.{◌≡◌, List, [], ℕ, length, IfOk};
 ghost use Rattle.ng_plan.specs.Numbers.{AreNumbers};
 ghost use Rattle.ng_plan.specs.Plans.{op_of, ops_of, origin as origin_of};
 ghost use Rattle.ng_plan.specs.Schedules.{AreTurns};
@@ -24,10 +24,26 @@ pub fn log_ops(
         → AreTurns names schedule.now turns
         → ops ≡ ops_of turns log lines.now) }
 {
+    if schedule.takers.is_empty() && schedule.makers.is_empty() {
+        return Ok(Items::from_vec(own_ops(alloc, lines, owns)?));
+    }
     let taken = numbers(alloc, schedule.takers.as_slice(), log, lines.len())?;
     let given = numbers(alloc, schedule.makers.as_slice(), log, lines.len())?;
     let ops = numbered_ops(alloc, lines, owns, taken.as_slice(), given.as_slice())?;
     Ok(Items::from_vec(ops))
+}
+
+/// The ops of a log, from its own ops, where no block is handed off.
+fn own_ops(alloc: Global, lines: &[Line], owns: &[Option<u32>]) -> Result<Vec<Op>, AllocError>
+    requires { owns.now ≡ owns_of lines.now }
+    ensures { IfOk result (λ ops. (turns : Turns) (log : ℕ) → takers_of turns ≡ []
+        → makers_of turns ≡ [] → ops.items ≡ ops_of turns log lines.now) }
+{
+    let mut ops = Vec::with_capacity(alloc, lines.len())?;
+    for (at, line) in lines.iter().enumerate() {
+        ops.push(op(line, owns[at], None, None))?;
+    }
+    Ok(ops)
 }
 
 /// The ops of a log, from its own ops and the numbers of its hand-offs.

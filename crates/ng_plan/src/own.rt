@@ -5,12 +5,12 @@ ghost use Rattle.ng_plan.specs.Steps.{owns_of};
 ghost use Rattle.ng_plan.specs.Tables.{AreEnded, AreMakers, IsKnown, Rises};
 
 use crate::mentions::{ended, made};
-use crate::names::number_of;
+use crate::names::Names;
 use ng_mtrace::Line;
 use std::alloc::{AllocError, Global};
 
 /// Of each line the log's own op that it takes.
-pub fn owns(alloc: Global, names: &[u64], lines: &[Line]) -> Result<Vec<Option<u32>>, AllocError>
+pub fn owns(alloc: Global, names: &Names, lines: &[Line]) -> Result<Vec<Option<u32>>, AllocError>
     requires rising { Rises names.now }
     requires known { All (IsKnown names.now) lines.now }
     requires few { length lines.now ≤ 1000000 }
@@ -27,7 +27,7 @@ pub fn owns(alloc: Global, names: &[u64], lines: &[Line]) -> Result<Vec<Option<u
 }
 
 /// Takes the end that the line mentions: its own op.
-fn take_end(names: &[u64], makers: &mut [Option<u32>], line: &Line) -> Option<u32>
+fn take_end(names: &Names, makers: &mut [Option<u32>], line: &Line) -> Option<u32>
     requires rising { Rises names.now }
     requires known { IsKnown names.now line.now }
     requires same { length makers.old ≡ length names.now }
@@ -38,7 +38,7 @@ fn take_end(names: &[u64], makers: &mut [Option<u32>], line: &Line) -> Option<u3
         → AreEnded names.now makers.new before line.now }
 {
     let name = ended(line)?;
-    let at = number_of(names, name);
+    let at = names.number(name);
     let own = makers[at];
     makers[at] = None;
     own
@@ -46,7 +46,7 @@ fn take_end(names: &[u64], makers: &mut [Option<u32>], line: &Line) -> Option<u3
 
 /// Takes the name that the line makes.
 #[tactic(auto, using(crate::proofs::TableLemmas::maker_push))]
-fn take_make(names: &[u64], makers: &mut [Option<u32>], number: u32, line: &Line)
+fn take_make(names: &Names, makers: &mut [Option<u32>], number: u32, line: &Line)
     requires rising { Rises names.now }
     requires known { IsKnown names.now line.now }
     requires same { length makers.old ≡ length names.now }
@@ -56,7 +56,7 @@ fn take_make(names: &[u64], makers: &mut [Option<u32>], number: u32, line: &Line
         → AreMakers names.now makers.new (before ++ line.now ∷ []) }
 {
     if let Some(name) = made(line) {
-        let at = number_of(names, name);
+        let at = names.number(name);
         makers[at] = Some(number);
     }
 }

@@ -6,7 +6,7 @@ ghost use Rattle.ng_plan.specs.Steps.{owns_of, steps_of};
 ghost use Rattle.ng_plan.specs.Tables.{AreKnown, IsNumbered, Rises};
 ghost use Rattle.ng_plan.specs.Turns.{Turns};
 
-use crate::names::{each_once, mention_all};
+use crate::names::{Names, each_once, mention_all};
 use crate::ops::log_ops;
 use crate::own::owns;
 use crate::rounds::all_turns;
@@ -39,9 +39,9 @@ fn plan_logs(alloc: Global, logs: &[Log]) -> Result<Plan, AllocError>
     requires short { sum_by length (lines_of logs.now) ≤ 1000000 }
     ensures { IfOk result (λ plan. plan ≡ plan_of (lines_of logs.now)) }
 {
-    let names = names_of(alloc, logs)?;
-    let owns = all_owns(alloc, names.as_slice(), logs)?;
-    let steps = all_steps(alloc, names.as_slice(), logs, owns.as_slice())?;
+    let names = Names::new(alloc, names_of(alloc, logs)?)?;
+    let owns = all_owns(alloc, &names, logs)?;
+    let steps = all_steps(alloc, &names, logs, owns.as_slice())?;
     let schedule = all_turns(alloc, names.len(), steps.as_slice())?;
     plan_from(alloc, schedule, logs, owns.as_slice())
 }
@@ -55,7 +55,7 @@ fn names_of(alloc: Global, logs: &[Log]) -> Result<Vec<u64>, AllocError>
 {
     let mut names = Vec::new(alloc);
     for log in logs {
-        mention_all(&mut names, log.lines.as_slice())?;
+        mention_all(alloc, &mut names, log.lines.as_slice())?;
     }
     Ok(each_once(names))
 }
@@ -63,7 +63,7 @@ fn names_of(alloc: Global, logs: &[Log]) -> Result<Vec<u64>, AllocError>
 /// The own ops of each log.
 fn all_owns(
     alloc: Global,
-    names: &[u64],
+    names: &Names,
     logs: &[Log],
 ) -> Result<Vec<Items<Option<u32>>>, AllocError>
     requires rising { Rises names.now }
@@ -82,7 +82,7 @@ fn all_owns(
 /// The steps of each log.
 fn all_steps(
     alloc: Global,
-    names: &[u64],
+    names: &Names,
     logs: &[Log],
     owns: &[Items<Option<u32>>],
 ) -> Result<Vec<Items<Step>>, AllocError>

@@ -38,10 +38,23 @@ impl Queues {
             → AreQueues names self.new.each.items (blocks ++ posted_by place
             (name_at names number))) }
     {
-        let Some(at) = number else {
-            return Ok(());
-        };
-        match self.each[at as usize].push_back(place) {
+        match number {
+            Some(at) => self.put(at as usize, place),
+            None => Ok(()),
+        }
+    }
+
+    /// Posts a block under the name of this number.
+    #[inline(never)]
+    fn put(&mut self, at: usize, place: Place) -> Result<(), AllocError>
+        requires { at < length self.old.each.items }
+        ensures same { OnOk result (length self.new.each.items ≡ length self.old.each.items) }
+        ensures posted { OnOk result ((names : List ℕ) (blocks : List Posted) → Rises names
+            → length names ≡ length self.old.each.items → AreQueues names self.old.each.items blocks
+            → AreQueues names self.new.each.items (blocks ++ posted_by place
+            (Some (slice_index names at)))) }
+    {
+        match self.each[at].push_back(place) {
             Ok(()) => Ok(()),
             Err(_) => Err(AllocError),
         }

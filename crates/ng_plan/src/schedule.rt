@@ -116,6 +116,7 @@ impl Schedule {
     }
 
     /// The next op of a log is done: what it hands is posted.
+    #[inline(always)]
     pub fn finish(&mut self, log: u32, posts: Option<u32>) -> Result<(), AllocError>
         requires log { log < length self.old.done.items }
         requires few { slice_index self.old.done.items log < 1000000 }

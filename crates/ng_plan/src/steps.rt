@@ -5,7 +5,7 @@ ghost use Rattle.ng_plan.specs.Steps.{owns_of, step_of, steps_of};
 ghost use Rattle.ng_plan.specs.Tables.{AreEnding, AreMade, IsKnown, IsNumbered, Rises, name_at, named};
 
 use crate::mentions::{ended, made};
-use crate::names::number_of;
+use crate::names::Names;
 use crate::step::Step;
 use ng_mtrace::Line;
 use std::alloc::{AllocError, Global};
@@ -13,7 +13,7 @@ use std::alloc::{AllocError, Global};
 /// The steps of a log, from its own ops.
 pub fn steps(
     alloc: Global,
-    names: &[u64],
+    names: &Names,
     lines: &[Line],
     owns: &[Option<u32>],
 ) -> Result<Vec<Step>, AllocError>
@@ -43,7 +43,7 @@ pub fn steps(
 
 /// Goes back over the lines, and writes the step of each.
 fn fill(
-    names: &[u64],
+    names: &Names,
     lines: &[Line],
     owns: &[Option<u32>],
     ending: &mut [bool],
@@ -68,7 +68,7 @@ fn fill(
 }
 
 /// Goes back over the line: its step, from its own op.
-fn back_step(names: &[u64], ending: &mut [bool], line: &Line, own: Option<u32>) -> Step
+fn back_step(names: &Names, ending: &mut [bool], line: &Line, own: Option<u32>) -> Step
     requires rising { Rises names.now }
     requires known { IsKnown names.now line.now }
     requires same { length ending.old ≡ length names.now }
@@ -95,7 +95,7 @@ fn back_step(names: &[u64], ending: &mut [bool], line: &Line, own: Option<u32>) 
 }
 
 /// Goes back over what the line makes: the number of its name, if the block is handed.
-fn back_make(names: &[u64], ending: &mut [bool], line: &Line) -> Option<u32>
+fn back_make(names: &Names, ending: &mut [bool], line: &Line) -> Option<u32>
     requires rising { Rises names.now }
     requires known { IsKnown names.now line.now }
     requires same { length ending.old ≡ length names.now }
@@ -108,14 +108,14 @@ fn back_make(names: &[u64], ending: &mut [bool], line: &Line) -> Option<u32>
         → AreMade names.now ending.new after line.now }
 {
     let name = made(line)?;
-    let at = number_of(names, name);
+    let at = names.number(name);
     let ends = ending[at];
     ending[at] = false;
     if ends { None } else { Some(at as u32) }
 }
 
 /// Goes back over what the line ends: the number of its name.
-fn back_end(names: &[u64], ending: &mut [bool], line: &Line) -> Option<u32>
+fn back_end(names: &Names, ending: &mut [bool], line: &Line) -> Option<u32>
     requires rising { Rises names.now }
     requires known { IsKnown names.now line.now }
     requires same { length ending.old ≡ length names.now }
@@ -127,7 +127,7 @@ fn back_end(names: &[u64], ending: &mut [bool], line: &Line) -> Option<u32>
         → AreEnding names.now ending.new (line.now ∷ after) }
 {
     let name = ended(line)?;
-    let at = number_of(names, name);
+    let at = names.number(name);
     ending[at] = true;
     Some(at as u32)
 }

@@ -39,8 +39,31 @@ impl Counts {
         absent: 0,
     };
 
-    /// Counts a reply.
+    /// Counts a reply. Most are a block given or freed.
     pub fn add(&mut self, reply: &Reply)
+        requires within { IsWithin self.old }
+        requires room { self.old.replies + 1 < 2 ^ 64 }
+        ensures raised { Raises self.old self.new (λ test. if test reply.now then 1 else 0) }
+        ensures replies { self.new.replies ≡ self.old.replies + 1 }
+        ensures within { IsWithin self.new }
+    {
+        match *reply {
+            Reply::Given { .. } => {
+                self.replies += 1;
+                self.calls += 1;
+                self.given += 1;
+            }
+            Reply::Freed { .. } => {
+                self.replies += 1;
+                self.calls += 1;
+                self.taken += 1;
+            }
+            _ => self.add_by_kinds(reply),
+        }
+    }
+
+    /// Counts a reply of any kind.
+    fn add_by_kinds(&mut self, reply: &Reply)
         requires within { IsWithin self.old }
         requires room { self.old.replies + 1 < 2 ^ 64 }
         ensures raised { Raises self.old self.new (λ test. if test reply.now then 1 else 0) }

@@ -15,3 +15,4 @@ mod tests;
 mod text;
 
 pub use report::{count_ops, render, report_room};
+pub use text::{put, put_decimal, put_hex};

@@ -4,7 +4,7 @@ use Rattle.ng_class.specs.Slot.{IsGroupClass}
 use Rattle.ng_meta.specs.Place.{IsMetaPlace}
 use Rattle.ng_view.specs.Conditions.{HasFlags}
 use Rattle.ng_view.specs.Lists.{Among, count_of, is_at, total_by}
-use Rattle.ng_view.specs.Places.{reach}
+use Rattle.ng_view.specs.Places.{Owns, reach}
 use Rattle.ng_view.specs.declared.view.Group.{Group}
 use Rattle.ng_view.specs.declared.view.Held.{Held}
 use Rattle.ng_view.specs.declared.view.Place.{Place}
@@ -25,6 +25,10 @@ pub record LiesIn (key : Start) (p : Place) : Type 0 where
 -- and so of each slot in a view
 abbrev pub ArePlaced : Start → View → Type 0
 ArePlaced key v = (h : Held) → Among h v.held → LiesIn key h.place
+
+-- the word x at the address a is one of 32 bits where that cell is a slot's own
+abbrev pub IsSmall : View → ℕ → ℕ → Type 0
+IsSmall v a x = (h : Held) → Among h v.held → Owns h.place a → x < 4294967296
 
 -- how often a view has the slot i of the meta m
 abbrev pub times_at : ℕ → ℕ → View → ℕ

@@ -4,7 +4,7 @@ ghost use Rattle.ng_view.specs.May.{May};
 ghost use Rattle.ng_view.specs.Tells.{Tells};
 ghost use Rattle.ng_view.specs.Steps.{loaded};
 ghost use Rattle.ng_space.specs.Blocks.{BlockToken, HasBlock};
-ghost use Rattle.ng_space.specs.Placed.{AreOnce, ArePlaced};
+ghost use Rattle.ng_space.specs.Placed.{AreOnce, ArePlaced, IsSmall};
 ghost use Rattle.ng_space.specs.Tokens.{HasSlot, Token};
 ghost use Rattle.ng_space.specs.Entries.{IsLegalAnytime, Enters};
 
@@ -27,6 +27,7 @@ impl<N: Name> Space<N> {
         ensures told { Tells N.facts.start hand.old.view addr result }
         ensures placed { ArePlaced N.facts.start hand.old.view }
         ensures once { AreOnce hand.old.view }
+        ensures small { IsSmall hand.old.view addr result }
         ensures slots { (slot : Token) → HasSlot hand.old slot → HasSlot hand.new slot }
         ensures blocks { (block : BlockToken) → HasBlock hand.old block → HasBlock hand.new block }
         ensures number { hand.new.number ≡ hand.old.number }

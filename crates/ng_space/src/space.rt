@@ -93,6 +93,7 @@ impl<N: Name> Space<N> {
     pub fn pages(&self) -> u32
         ensures pages { result ≡ N.facts.start.pages }
         ensures few { result ≤ 16384 }
+        ensures range { InRange N.facts.start }
     {
         self.start.pages as u32
     }

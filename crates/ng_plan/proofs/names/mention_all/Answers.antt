@@ -8,3 +8,6 @@ loop-line-preserved c = record {
   few = omega (arith, c.mention.ensures.few, c.loop-line.invariant.few);
   kept = λ name held. c.mention.ensures.kept name (c.loop-line.invariant.kept name held);
 }
+
+pub returns-in_err-mention-clause-kept : goal.returns-in_err-mention-clause-kept
+returns-in_err-mention-clause-kept c = λ name held. c.mention.ensures.kept name (c.loop-line.invariant.kept name held)

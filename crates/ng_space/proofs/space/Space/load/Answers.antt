@@ -3,7 +3,7 @@ use Rattle.ng_view.specs.Steps.{loaded}
 use Rattle.ng_view.specs.Tells.{Tells}
 use Rattle.ng_view.specs.declared.view.View.{View}
 use Rattle.ng_space.specs.Callers.{Caller}
-use Rattle.ng_space.specs.Placed.{AreOnce, ArePlaced}
+use Rattle.ng_space.specs.Placed.{AreOnce, ArePlaced, IsSmall}
 use Rattle.ng_space.proofs.Granting.{loaded_block}
 use Rattle.ng_space.proofs.Holding.{has_loaded}
 use Rattle.ng_space.proofs.Entering.{loads_and_tells}
@@ -30,3 +30,6 @@ returns-clause-blocks g c = λ block has.
 
 pub returns-clause-once : goal.returns-clause-once
 returns-clause-once g c = subst AreOnce (ap (λ (hand : Caller). hand.view) c.hand.view_is) c.load_told.ensures.told.3
+
+pub returns-clause-small : goal.returns-clause-small
+returns-clause-small g c = subst (λ (v : View). IsSmall v c.args.addr c.load_told.result) (ap (λ (hand : Caller). hand.view) c.hand.view_is) c.load_told.ensures.told.4

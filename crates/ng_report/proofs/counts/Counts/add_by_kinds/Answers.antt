@@ -1,5 +1,5 @@
 use Rattle.ng_report.proofs.KindLemmas.{count-raised}
-use Rattle.ng_report.proofs.counts.Counts.add.Goals as goal
+use Rattle.ng_report.proofs.counts.Counts.add_by_kinds.Goals as goal
 
 pub returns-clause-raised : goal.returns-clause-raised
 returns-clause-raised c = record {
