@@ -1,5 +1,5 @@
 -- One byte of a cell that is made 0.
-use Rattle.std.proofs.Common.{◌≡◌, ◌≢◌, ℕ, zero, suc, ◌-◌, ◌*◌, ◌/◌, ◌%◌, ◌^◌, ◌<◌, refl, ap, ◌∙◌, subst, ⊎_elim, inl, arith}
+use Rattle.std.proofs.Common.{◌≡◌, ◌≢◌, ℕ, zero, suc, ◌-◌, ◌*◌, ◌/◌, ◌%◌, ◌^◌, ◌<◌, refl, sym, ap, ◌∙◌, subst, ⊎_elim, inl, arith}
 use Rattle.std.proofs.lemmas.Bool.{cases_eq}
 use Rattle.ng_header.specs.Bytes.{byte_of}
 use Rattle.ng_rule.proofs.hand.Load.{still_knows}
@@ -17,26 +17,34 @@ byte_of-low word (suc (suc zero)) lt = omega arith
 byte_of-low word (suc (suc (suc zero))) lt = omega arith
 byte_of-low word (suc (suc (suc (suc b)))) lt = absurd (omega arith)
 
--- a byte that was known to be 0 stays so where another is made 0
-pub zero_kept : (h : Held) (at word value y : ℕ) → ((z : ℕ) → Knows (4 * (at / 4)) z h → word ≡ z) → byte_of value (at % 4) ≡ 0
-    → ((b : ℕ) → b < 4 → b ≢ at % 4 → byte_of value b ≡ byte_of (word % 4294967296) b) → KnowsByte y 0 h → KnowsByte y 0 (wrote (4 * (at / 4)) value (learnt (4 * (at / 4)) word h))
-zero_kept h at word value y told here others k = ⊎_elim
-    (λ (same : 4 * (y / 4) ≡ 4 * (at / 4)). (value, inl (ap (λ (a : ℕ). (a, value)) same), zero_at same))
+-- a byte that was known stays so where another is written
+pub byte_kept : (h : Held) (at word value y b : ℕ) → ((z : ℕ) → Knows (4 * (at / 4)) z h → word ≡ z)
+    → ((k : ℕ) → k < 4 → k ≢ at % 4 → byte_of value k ≡ byte_of (word % 4294967296) k) → y ≢ at → KnowsByte y b h
+    → KnowsByte y b (wrote (4 * (at / 4)) value (learnt (4 * (at / 4)) word h))
+byte_kept h at word value y b told others other k = ⊎_elim
+    (λ (same : 4 * (y / 4) ≡ 4 * (at / 4)). (value, inl (ap (λ (a : ℕ). (a, value)) same), byte_at same))
     (λ (ne : 4 * (y / 4) ≢ 4 * (at / 4)). (k.0, still_knows (4 * (at / 4)) value (4 * (y / 4)) k.0 (learnt (4 * (at / 4)) word h) ne ((learns_cell (4 * (at / 4)) word h).cells (4 * (y / 4)) k.0 tt k.1), k.2))
     (cases_eq (4 * (y / 4)) (4 * (at / 4)))
   where
-    zero_at : 4 * (y / 4) ≡ 4 * (at / 4) → byte_of value (y % 4) ≡ 0
-    zero_at same = ⊎_elim
-        (λ (e : y % 4 ≡ at % 4). ap (byte_of value) e ∙ here)
-        (λ (ne : y % 4 ≢ at % 4).
+    byte_at : 4 * (y / 4) ≡ 4 * (at / 4) → byte_of value (y % 4) ≡ b
+    byte_at same =
         let lt : y % 4 < 4 = omega arith in
+        let apart : y % 4 ≢ at % 4 = (λ e. other (omega (arith, same, e))) in
         let word_is : word ≡ k.0 = told k.0 (subst (λ a. Knows a k.0 h) same k.1) in
-        others (y % 4) lt ne ∙ byte_of-low word (y % 4) lt ∙ ap (λ w. byte_of w (y % 4)) word_is ∙ k.2)
-        (cases_eq (y % 4) (at % 4))
+        others (y % 4) lt apart ∙ byte_of-low word (y % 4) lt ∙ ap (λ w. byte_of w (y % 4)) word_is ∙ k.2
 
--- and the byte that is made 0 is known to be so
-pub zero_made : (h : Held) (at value : ℕ) → byte_of value (at % 4) ≡ 0 → KnowsByte at 0 (wrote (4 * (at / 4)) value h)
-zero_made h at value here = (value, inl refl, here)
+-- and the byte that is written is known
+pub byte_made : (h : Held) (at value b : ℕ) → byte_of value (at % 4) ≡ b → KnowsByte at b (wrote (4 * (at / 4)) value h)
+byte_made h at value b here = (value, inl refl, here)
+
+-- so one that was known to be 0 stays so where one is made 0
+pub zero_kept : (h : Held) (at word value y : ℕ) → ((z : ℕ) → Knows (4 * (at / 4)) z h → word ≡ z) → byte_of value (at % 4) ≡ 0
+    → ((b : ℕ) → b < 4 → b ≢ at % 4 → byte_of value b ≡ byte_of (word % 4294967296) b) → KnowsByte y 0 h → KnowsByte y 0 (wrote (4 * (at / 4)) value (learnt (4 * (at / 4)) word h))
+zero_kept h at word value y told here others k = ⊎_elim
+    (λ (same : y ≡ at). subst (λ z. KnowsByte z 0 (wrote (4 * (at / 4)) value (learnt (4 * (at / 4)) word h))) (sym same)
+    (byte_made (learnt (4 * (at / 4)) word h) at value 0 here))
+    (λ (ne : y ≢ at). byte_kept h at word value y 0 told others ne k)
+    (cases_eq y at)
 
 -- ---- a cell without one of its bytes
 -- the cell less what its byte k adds, as the code has it

@@ -22,7 +22,7 @@ use Rattle.ng_space.specs.Tokens.{HasSlot, LiesAt, Token}
 use Rattle.ng_space.proofs.Holding.{find-loaded}
 use Rattle.ng_space.specs.Leaving.{KeepsCells, Leaves, LiesStill, Stays}
 use Rattle.ng_frame.specs.Puts.{IsWhole}
-use Rattle.ng_frame.proofs.Bytes.{zero_kept, zero_made}
+use Rattle.ng_frame.proofs.Bytes.{byte_made, zero_kept}
 use Rattle.ng_space.proofs.Leaving.{stays_loaded, stays_stored, stays_then}
 use Rattle.ng_space.proofs.LeavingFrames.{all_leaves, leaves_loaded, leaves_stored, leaves_then}
 
@@ -43,7 +43,7 @@ module _ (old mid new : Caller) (slot : Token) (has : HasSlot old slot) (at word
   found = ap (λ (u : View). find slot.meta slot.index u.held) stores ∙ find_edit slot.meta slot.index (wrote a cell) mid.view.held (learnt a word has.held) (λ y. refl) (ap (λ (u : View). find slot.meta slot.index u.held) loads ∙ find-loaded old.view a word slot.meta slot.index has.held has.found)
 
   pub cleared_zero : byte_of cell (at % 4) ≡ 0 → OfSlot new slot (KnowsByte at 0)
-  cleared_zero zero_byte = of_found new slot (wrote a cell (learnt a word has.held)) (KnowsByte at 0) found (zero_made (learnt a word has.held) at cell zero_byte)
+  cleared_zero zero_byte = of_found new slot (wrote a cell (learnt a word has.held)) (KnowsByte at 0) found (byte_made (learnt a word has.held) at cell 0 zero_byte)
 
   pub cleared_zeros : (key : Start) → Tells key old.view a word → byte_of cell (at % 4) ≡ 0 → ((b : ℕ) → b < 4 → b ≢ at % 4 → byte_of cell b ≡ byte_of (word % 4294967296) b) → (y : ℕ) → OfSlot old slot (KnowsByte y 0) → OfSlot new slot (KnowsByte y 0)
   cleared_zeros key told zero_byte others y known =

@@ -4,3 +4,5 @@ pub mod Frames
 pub mod Trailers
 pub mod Lengths
 pub mod Tokens
+pub mod Judged
+pub mod Verdicts

@@ -4,7 +4,9 @@ use Rattle.ng_header.specs.Bytes.{byte_of}
 use Rattle.ng_header.specs.Reading.{IsBadReserved, IsOverrun, reserved_by}
 use Rattle.ng_terms.specs.declared.entry.Entry.{Entry}
 use Rattle.ng_terms.specs.declared.entry.Entry.TheVariants.{Refused, Take}
+use Rattle.ng_view.specs.Blocks.{Knows}
 use Rattle.ng_view.specs.Steps.{loaded}
+use Rattle.ng_view.specs.declared.view.Held.{Held}
 use Rattle.ng_view.specs.declared.view.View.{View}
 use Rattle.ng_space.specs.Blocks.{BlockToken, Kills}
 use Rattle.ng_space.specs.Callers.{Caller}
@@ -51,6 +53,12 @@ pub record TellLength (block : BlockToken) (w : Words) : Type 0 where
   pub fifth : 5 ≤ tail_of block → fifth_in w ≡ 0
   pub within : tail_of block ≤ gap_of block
 
+-- and each is what the slot is known to have there, where that is known
+pub record AreKnown (block : BlockToken) (w : Words) (h : Held) : Type 0 where
+  pub header : (y : ℕ) → Knows (block.at - 4) y h → w.header ≡ y
+  pub last : (y : ℕ) → Knows (block.slot.end - 4) y h → w.last ≡ y
+  pub fifth : (y : ℕ) → Knows (block.slot.end - 8) y h → w.fifth ≡ y
+
 -- the view once the words of a block's frame were loaded
 abbrev pub looked : View → BlockToken → Words → View
 looked v block w =
@@ -60,6 +68,11 @@ looked v block w =
 abbrev pub number_of : Damage → ℕ
 number_of BadReserved = 12
 number_of Overrun = 13
+
+-- the damage that a free was refused for, if it was
+abbrev pub damage_of : {A B : Type 0} → Result A (B × Damage) → Option Damage
+damage_of (Ok done) = None
+damage_of (Err left) = Some left.1
 
 -- the entry of a free of the block at an address: it is taken, or refused for its damage
 abbrev pub free_entry : {A B : Type 0} → ℕ → Result A (B × Damage) → Entry

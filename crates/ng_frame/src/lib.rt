@@ -8,7 +8,7 @@ mod taking;
 mod trailer;
 mod words;
 
-pub use damage::{Damage, find_damage};
+pub use damage::{Damage, find_damage, nominal_size};
 pub use offset::next_offset;
 pub use putting::put;
 pub use taking::take_out;

@@ -2,7 +2,8 @@ ghost use Rattle.std.specs.Prelude.{◌≡◌, ◌≤◌, IfErr, IfOk, IsOk};
 ghost use Rattle.ng_space.specs.Blocks.{HasBlock, HasFramed};
 ghost use Rattle.ng_space.specs.Tokens.{HasSlot};
 ghost use Rattle.ng_space.specs.Leaving.{Entered, Leaves, LeavesAll};
-ghost use Rattle.ng_frame.specs.Inspects.{Refuses, Takes, free_entry};
+ghost use Rattle.ng_frame.specs.Inspects.{Refuses, Takes, damage_of, free_entry};
+ghost use Rattle.ng_frame.specs.Judging.{IsKnownDamage};
 
 use crate::damage::{Damage, find_damage};
 use ng_space::{Block, Hand, Name, Slot, Space};
@@ -23,6 +24,8 @@ pub fn take_out<N: Name>(
 
     // A block whose frame the hand knows is taken.
     ensures framed { HasFramed hand.old block → IsOk result }
+    // Where the frame's verdict is known, it decides.
+    ensures known { IsKnownDamage hand.old block (damage_of result) }
 
     ensures block { IfErr result (λ left. left.0 ≡ block) }
     ensures cause { IfErr result (λ left. Refuses hand.old block left.1 hand.new) }

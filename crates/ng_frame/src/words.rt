@@ -1,8 +1,10 @@
 // The words that a block's frame is read from.
 ghost use Rattle.std.specs.Prelude.{◌≡◌, ◌%◌, ◌<◌};
 ghost use Rattle.ng_header.specs.Bytes.{byte_of};
-ghost use Rattle.ng_space.specs.Blocks.{HasBlock, HasFramed};
-ghost use Rattle.ng_frame.specs.Inspects.{TellLength, looked};
+ghost use Rattle.ng_space.specs.Blocks.{HasBlock, HasFramed, OfSlot};
+ghost use Rattle.ng_frame.specs.Judging.{AreSure};
+ghost use Rattle.ng_frame.specs.Inspects.{AreKnown, TellLength, looked};
+ghost use Rattle.ng_frame.specs.Puts.{IsWhole};
 ghost use Rattle.ng_space.specs.Leaving.{KeepsBook, LeavesAll};
 
 use ng_space::{Block, Hand, Name, Space};
@@ -20,6 +22,9 @@ pub(crate) fn read_words<N: Name>(space: &Space<N>, hand: &mut Hand<N>, block: &
     requires block { HasBlock hand.old block.now }
     ensures view { hand.new.view ≡ looked hand.old.view block.now result }
     ensures whole { block.now.slot.end % 16 ≡ 12 }
+    ensures lies { IsWhole block.now.slot }
+    ensures known { OfSlot hand.old block.now.slot (AreKnown block.now result) }
+    ensures sure { OfSlot hand.new block.now.slot (AreSure block.now result) }
     ensures tells { HasFramed hand.old block.now → TellLength block.now result }
     ensures leaves { LeavesAll hand.old.view hand.new.view }
     ensures book { KeepsBook hand.old hand.new }

@@ -1,3 +1,6 @@
+pub mod AtLemmas
+pub mod AtTestLemmas
+pub mod ByteLemmas
 pub mod FreeLemmas
 pub mod PutLemmas
 pub mod QuickLemmas

@@ -1,3 +1,4 @@
+pub mod At
 pub mod Causes
 pub mod Freeing
 pub mod Keeps

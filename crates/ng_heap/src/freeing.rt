@@ -1,6 +1,7 @@
 // Blocks that are taken back.
 ghost use Rattle.std.specs.Prelude.{◌≡◌, ◌≤◌, IfErr, IfOk, IsOk, OnOk};
-ghost use Rattle.ng_frame.specs.Inspects.{Refuses, free_entry};
+ghost use Rattle.ng_frame.specs.Inspects.{Refuses, damage_of, free_entry};
+ghost use Rattle.ng_frame.specs.Judging.{IsKnownDamage};
 ghost use Rattle.ng_space.specs.Leaving.{Entered, KeepsBook, Leaves, LeavesAll};
 ghost use Rattle.ng_mapper.specs.Mapping.{NotesNone};
 ghost use Rattle.ng_group.specs.Returning.{ReturnsOfHand};
@@ -37,6 +38,7 @@ impl<N: Name> Heap<N> {
         requires spare { 1 ≤ hand.old.spare }
         requires block { HasBlock hand.old block }
         ensures framed { HasFramed hand.old block → IsOk result }
+        ensures known { IsKnownDamage hand.old block (damage_of result) }
         ensures frees { IfOk result (λ freed. FreesUnlocked hand.old block freed hand.new.view) }
         ensures left { IfOk result (λ freed. OnLeft freed (λ slot. slot ≡ block.slot)) }
         ensures has { IfOk result (λ freed. OnLeft freed (HasSlot hand.new)) }
@@ -67,6 +69,7 @@ impl<N: Name> Heap<N> {
         requires spare { 1 ≤ hand.old.spare }
         requires block { HasBlock hand.old block }
         ensures framed { HasFramed hand.old block → IsOk result }
+        ensures known { IsKnownDamage hand.old block (damage_of result) }
 
         ensures block { IfErr result (λ left. left.0 ≡ block) }
         ensures cause { IfErr result (λ left. Refuses hand.old block left.1 hand.new) }

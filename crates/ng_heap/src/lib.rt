@@ -2,14 +2,18 @@
 #![tactic(auto)]
 
 mod freeing;
+mod freeing_at;
 mod heap;
+mod looking;
 mod malloc;
 mod quick;
 mod sending;
 mod shared;
 
 pub use freeing::Unlocked;
+pub use freeing_at::AtRefusal;
 pub use heap::Heap;
+pub use ng_check::{BadPointer, Found, PointerFault, Seen};
 pub use ng_frame::Damage;
 pub use ng_mask::Needs;
 pub use ng_space::Parcel;
@@ -19,6 +23,8 @@ pub use shared::SharedHeap;
 
 #[cfg(test)]
 mod area_tests;
+#[cfg(test)]
+mod beside_tests;
 #[cfg(test)]
 mod lock_tests;
 #[cfg(test)]

@@ -26,19 +26,19 @@ const TURNS: u32 = 10_000_000;
 
 // What the two hands' threads tell each other, each 0 at first and 1 from then on.
 #[derive(Drop)]
-struct Signals {
+pub(crate) struct Signals {
     // The second hand is ready, and the next map call is to be held.
-    armed: AtomicU32,
+    pub(crate) armed: AtomicU32,
     // It is held.
-    began: AtomicU32,
+    pub(crate) began: AtomicU32,
     // The second hand's call is back.
     returned: AtomicU32,
     // Someone waited for a word in vain.
-    late: AtomicU32,
+    pub(crate) late: AtomicU32,
 }
 
 impl Signals {
-    fn new() -> Signals {
+    pub(crate) fn new() -> Signals {
         Signals {
             armed: AtomicU32::new(0),
             began: AtomicU32::new(0),
@@ -48,7 +48,7 @@ impl Signals {
     }
 
     // Waits until the word is 1, for so many turns at most.
-    fn wait_for(&self, word: &AtomicU32) {
+    pub(crate) fn wait_for(&self, word: &AtomicU32) {
         for _turn in 0..TURNS {
             if word.load(Ordering::SeqCst) == 1 {
                 return;

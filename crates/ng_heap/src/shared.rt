@@ -1,9 +1,10 @@
 // A heap that threads share: its core stands behind a lock.
-ghost use Rattle.std.specs.Prelude.{◌≡◌, ◌<◌, ◌≤◌, ◌↔◌, ℕ, Err, IfErr, IfOk, IsOk, OnOk};
+ghost use Rattle.std.specs.Prelude.{◌≡◌, ◌<◌, ◌≤◌, ◌↔◌, ℕ, All, Contains, Err, IfErr, IfOk, IsOk, OnOk, vec_capacity};
 ghost use Rattle.ng_frame.specs.Inspects.{Refuses, free_entry};
+ghost use Rattle.ng_heap.specs.At.{HasAtCause, IsOwnFree, at_entry};
 ghost use Rattle.ng_heap.specs.Freeing.{Frees};
 ghost use Rattle.ng_heap.specs.Making.{IsGivenNow, IsMade, RefusesNow, malloc_entry};
-ghost use Rattle.ng_space.specs.Blocks.{HasBlock, HasFramed};
+ghost use Rattle.ng_space.specs.Blocks.{BlockToken, HasBlock, HasFramed};
 ghost use Rattle.ng_space.specs.Leaving.{Entered, KeepsBook, KeepsSlots, Leaves, LeavesAll};
 ghost use Rattle.ng_space.specs.Tokens.{HasSlot};
 ghost use Rattle.ng_terms.specs.Heap.{IsTooLarge, large};
@@ -11,6 +12,7 @@ ghost use Rattle.ng_terms.specs.declared.refusal.AllocRefusal.TheVariants as ref
 ghost use Rattle.ng_view.specs.Steps.{pushed};
 
 use crate::freeing::Unlocked;
+use crate::freeing_at::AtRefusal;
 use crate::heap::Heap;
 use crate::quick::Quick;
 use ng_frame::Damage;
@@ -121,5 +123,29 @@ impl<N: Name, M: Mapper, P: Rules> SharedHeap<N, M, P> {
     {
         let mut core = self.core.lock(rt);
         self.heap.settle_in(&mut core, hand, slot)
+    }
+
+    /// Frees the block with an address, one of those held, under the lock. The address is checked first. Either a block is
+    /// freed and taken out of `held`, where the last one comes into its place; or the address is refused, which is entered,
+    /// and nothing is stored.
+    pub fn free_at<R: Wait>(
+        &self,
+        rt: &R,
+        hand: &mut Hand<N>,
+        held: &mut Vec<Block<N>>,
+        addr: u64,
+    ) -> Result<(), AtRefusal>
+        requires spare { 1 ≤ hand.old.spare }
+        requires held { All (HasBlock hand.old) held.old.items }
+        ensures cause { HasAtCause N.facts.start (λ probed block. Frees probed block hand.new.view)
+            hand.old addr held.old.items result held.new.items hand.new.view }
+        ensures own { (block : BlockToken) → Contains held.old.items block → block.at ≡ addr → IsOwnFree result }
+        ensures held { IfErr result (λ why. held.new ≡ held.old) }
+        ensures room { vec_capacity held.new ≡ vec_capacity held.old }
+        ensures kept { IfErr result (λ why. LeavesAll hand.old.view hand.new.view) }
+        ensures entered { Entered hand.old hand.new (at_entry addr result) }
+    {
+        let mut core = self.core.lock(rt);
+        self.heap.free_at(&mut core, hand, held, addr)
     }
 }

@@ -1,0 +1,14 @@
+pub mod Options
+pub mod Growing
+pub mod Failing
+pub mod Trailing
+pub mod Loading
+pub mod Tests
+pub mod Answering
+pub mod Ends
+pub mod Loaded
+pub mod OwnCells
+pub mod OwnTests
+pub mod OwnEnds
+pub mod OwnVerdicts
+pub mod OwnAnswers

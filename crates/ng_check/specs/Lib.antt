@@ -1,0 +1,5 @@
+pub mod Answers
+pub mod Cells
+pub mod Checks
+pub mod Queries
+pub mod Readings

@@ -1,0 +1,9 @@
+pub mod CheckLemmas
+pub mod FreeLemmas
+pub mod HandLemmas
+pub mod IndexLemmas
+pub mod LoopLemmas
+pub mod StateLemmas
+pub mod StepLemmas
+pub mod TellingLemmas
+pub mod CapLemmas

@@ -1,0 +1,70 @@
+// Pointers that are probed, and blocks whose cells are read and written byte by byte.
+ghost use Rattle.std.specs.Prelude.{◌≡◌, ◌≢◌, ℕ, ◌+◌, ◌<◌, Ok};
+ghost use Rattle.ng_check.specs.Answers.{Checks, Judges};
+ghost use Rattle.ng_frame.specs.Inspects.{Inspects, gap_of};
+ghost use Rattle.ng_frame.specs.Judging.{IsJudged, damage_in, verdict_of};
+ghost use Rattle.ng_header.specs.Bytes.{byte_of};
+ghost use Rattle.ng_heap.specs.At.{Scribbles, with_byte};
+ghost use Rattle.ng_space.specs.Blocks.{BlockToken, HasBlock, HasFramed, OfSlot};
+ghost use Rattle.ng_space.specs.Leaving.{KeepsBook, KeepsOthers, KeepsRest, LeavesAll};
+ghost use Rattle.ng_view.specs.Frame.{KnowsByte};
+
+use crate::heap::Heap;
+use ng_check::{BadPointer, Found, probe};
+use ng_frame::{Damage, nominal_size};
+use ng_space::{Block, Hand, Name};
+
+impl<N: Name> Heap<N> {
+    /// Checks a pointer: the block that it leads to, or the first check that fails. It takes no lock, and neither stores nor
+    /// enters anything.
+    pub fn look(&self, hand: &mut Hand<N>, addr: u64) -> Result<Found, BadPointer>
+        ensures checks { Checks N.facts.start.pages N.facts.start.secret addr hand.old.view result hand.new.view }
+        ensures own { (block : BlockToken) → HasBlock hand.old block → block.at ≡ addr → Judges block result hand.new }
+        ensures leaves { LeavesAll hand.old.view hand.new.view }
+        ensures book { KeepsBook hand.old hand.new }
+    {
+        probe(&self.space, hand, self.space.start().secret, addr)
+    }
+
+    /// The length of a block in bytes, as its frame's cells tell it, or what is wrong with them. Nothing is stored or entered.
+    pub fn usable_size(&self, hand: &mut Hand<N>, block: &Block<N>) -> Result<u64, Damage>
+        requires block { HasBlock hand.old block.now }
+        ensures cause { Inspects hand.old.view block.now (damage_in result) hand.new.view }
+        ensures judged { OfSlot hand.new block.now.slot (λ h. IsJudged h block.now.at (gap_of block.now) (verdict_of result)) }
+        ensures framed { HasFramed hand.old block.now → result ≡ Ok block.now.len }
+        ensures leaves { LeavesAll hand.old.view hand.new.view }
+        ensures book { KeepsBook hand.old hand.new }
+    {
+        nominal_size(&self.space, hand, block)
+    }
+
+    /// Writes one byte so many bytes behind a block's address, below its slot's end.
+    pub fn scribble(&self, hand: &mut Hand<N>, block: &Block<N>, from: u64, byte: u8)
+        requires block { HasBlock hand.old block.now }
+        requires from { from < gap_of block.now }
+        ensures view { Scribbles hand.old.view block.now (block.now.at + from) byte hand.new.view }
+        ensures written { OfSlot hand.new block.now.slot (KnowsByte (block.now.at + from) byte) }
+        ensures bytes { (y b : ℕ) → y ≢ block.now.at + from → OfSlot hand.old block.now.slot (KnowsByte y b) → OfSlot hand.new block.now.slot (KnowsByte y b) }
+        ensures has { HasBlock hand.new block.now }
+        ensures others { KeepsOthers block.now.slot hand.old.view hand.new.view }
+        ensures rest { KeepsRest hand.old.view hand.new.view }
+        ensures book { KeepsBook hand.old hand.new }
+    {
+        let _gap = block.gap();
+        let cell = block.at() + from / 4 * 4;
+        let word = self.space.load(hand, cell);
+        let value = put_byte((word % (1 << 32)) as u32, (from % 4) as u32, byte);
+        self.space.store_in(hand, block, cell, value);
+    }
+}
+
+// The cell with another byte at one of its four places, the lowest first.
+fn put_byte(cell: u32, place: u32, byte: u8) -> u32
+    requires place { place < 4 }
+    ensures value { result ≡ with_byte cell place byte }
+    ensures written { byte_of result place ≡ byte }
+    ensures others { (b : ℕ) → b < 4 → b ≢ place → byte_of result b ≡ byte_of cell b }
+{
+    let unit = 1u32 << (8 * place);
+    cell - cell / unit % 256 * unit + u32::from(byte) * unit
+}
