@@ -4,7 +4,7 @@ use Rattle.std.specs.Prelude.{All, Option, sum_by}
 use Rattle.std.proofs.lemmas.Bool.{cases_lt}
 use Rattle.std.proofs.lemmas.List.Elements.{All-head, All-tail}
 use Rattle.ng_space.specs.Leaving.{AreFramed}
-use Rattle.ng_group.specs.Opening.{IsFreshMapper, IsHandedBack}
+use Rattle.ng_group.specs.Opening.{Empty, IsFreshMapper, IsHandedBack}
 use Rattle.ng_history.specs.Book as book
 use Rattle.ng_mapper.specs.Mapping.{Span}
 use Rattle.ng_mapper.specs.Runs as mapper
@@ -12,6 +12,7 @@ use Rattle.ng_mapper.specs.declared.refusals.Refusals.{Refusals}
 use Rattle.ng_replay.specs.Books.{AreAllFramed, AreBooks, hand_at}
 use Rattle.ng_replay.specs.Serving.{IsCapOf, counts_of, plain}
 use Rattle.ng_replay.proofs.ClosingLemmas.{account_closed, books_of_hands}
+use Rattle.ng_space.specs.Blanks.{BlankHeap}
 use Rattle.ng_space.specs.Callers.{Caller}
 use Rattle.ng_space.specs.Closings.{HasOwnBook, IsClosed, books_of, views_of}
 use Rattle.ng_space.specs.Names.{Facts}
@@ -25,9 +26,9 @@ use Rattle.ng_terms.specs.declared.reply.Reply.{Reply}
 use Rattle.ng_view.specs.Lists.{Among}
 use Rattle.ng_view.specs.declared.view.Book.{Book}
 use Rattle.ng_view.specs.declared.view.View.{View}
-use Rattle.mng.specs.Closed.{IsImageOf, entries_of, number_at, program_secret}
+use Rattle.mng.specs.Closed.{IsImageOf, IsLawfulOf, entries_of, number_at, program_secret}
 use Rattle.mng.specs.Inputs.{PlansInput}
-use Rattle.mng.specs.Opened.{counts_at, span_at}
+use Rattle.mng.specs.Opened.{IsFreshOver, IsNamed, counts_at, span_at}
 use Rattle.mng.specs.Statuses.{IsLate}
 use Rattle.mng.specs.Tool.{Ends, Runs, WritesBeginning, WritesReport}
 use Rattle.mng.specs.Words.{ShowsCalls}
@@ -42,7 +43,7 @@ entries-books [] = refl
 entries-books (hand ∷ hands) = ap (λ (books : List (List Entry)). hand.entries ∷ books) (entries-books hands)
 
 -- what holds of all is so of each
-each_view : (P : View → Type 0) (vs : List View) → All P vs → (u : View) → Among u vs → P u
+pub each_view : (P : View → Type 0) (vs : List View) → All P vs → (u : View) → Among u vs → P u
 each_view P [] all u there = absurd there
 each_view P (v ∷ vs) all u (inl same) = subst P (sym same) (All-head P v vs all)
 each_view P (v ∷ vs) all u (inr there) = each_view P vs (All-tail P v vs all) u there
@@ -56,7 +57,7 @@ framed_view (hand ∷ hands) u framed (inr there) =
     framed_view hands u (All-tail (λ (h : Caller). AreFramed h.view) hand hands framed) there
 
 -- and it has one book
-booked_view : (hands : List Caller) (u : View) → All HasOwnBook hands → Among u (views hands) → (b : Book) × (u.books ≡ b ∷ [])
+pub booked_view : (hands : List Caller) (u : View) → All HasOwnBook hands → Among u (views hands) → (b : Book) × (u.books ≡ b ∷ [])
 booked_view [] u own there = elim there [ ]
 booked_view (hand ∷ hands) u own (inl same) =
     (record { number = hand.number; entries = hand.entries }, subst (λ (v : View). v.books ≡ record { number = hand.number; entries = hand.entries } ∷ []) (sym same) (All-head HasOwnBook hand hands own))
@@ -80,9 +81,9 @@ numbers-books (hand ∷ hands) (suc log) below = numbers-books hands log (omega 
 
 -- ---- the words that a heap left are an image that goes with the history of its views
 module _ (facts : Facts) (lock : View) (hands : List Caller) (span : Span) (live : List mapper.Run) (refused : Refusals) (words : List ℕ) where
-  abbrev image_closed : facts.start.secret ≡ program_secret → (closed : IsClosed facts.start words lock hands) → AreAllFramed hands
-      → IsHandedBack facts lock span live refused → IsImageOf program_secret (span_at facts.start) words live closed.history.calls
-  image_closed secret closed framed left = record {
+  abbrev pub lawful_closed : facts.start.secret ≡ program_secret → (closed : IsClosed facts.start words lock hands)
+      → IsHandedBack facts lock span live refused → IsLawfulOf program_secret (span_at facts.start) words live closed.history.calls
+  lawful_closed secret closed left = record {
     start = facts.start;
     secret_is = secret;
     pages_are = refl;
@@ -101,8 +102,14 @@ module _ (facts : Facts) (lock : View) (hands : List Caller) (span : Span) (live
     still = left.still;
     whole = each_view (λ (view : View). view.parcel ≡ false) (views_of lock hands) closed.whole;
     booked = λ u there. booked_view hands u closed.own there;
-    framed = λ u there. framed_view hands u framed there;
     blocks_are = closed.history.live;
+  }
+
+  abbrev image_closed : facts.start.secret ≡ program_secret → (closed : IsClosed facts.start words lock hands) → AreAllFramed hands
+      → IsHandedBack facts lock span live refused → IsImageOf program_secret (span_at facts.start) words live closed.history.calls
+  image_closed secret closed framed left = record {
+    lawful = lawful_closed secret closed left;
+    framed = λ u there. framed_view hands u framed there;
   }
 
 -- ---- a run whose heap was closed
@@ -151,6 +158,24 @@ module _ {X : Type 0} (span : X → Span) (runs : X → List mapper.Run) (refuse
       }
 
 -- ---- the mapper that a heap was opened over, and the one that it hands back
+-- the heap's memory gets its name, over a mapper that has no run yet
+pub named : (span : Span) (live : List mapper.Run) (refused : Refusals) (blank : BlankHeap) (tables : Empty) (hands : ℕ) → live ≡ []
+    → IsFreshOver span refused blank tables → IsNamed (record { table = blank.table; start = blank.start; hands = hands; most = refused.most }) span live refused blank tables
+named span live refused blank tables hands none fresh = record {
+  table = refl;
+  start = refl;
+  secret = fresh.start.secret;
+  empty = fresh.empty;
+  mapper = record {
+    lower = ap (λ (s : Span). s.lower) (sym fresh.start.span_is);
+    upper = ap (λ (s : Span). s.upper) (sym fresh.start.span_is);
+    size = ap (λ (s : Span). s.size) (sym fresh.start.span_is);
+    none = none;
+    count = sym fresh.start.refusals;
+  };
+  most = refl;
+}
+
 pub span_left : (facts : Facts) (lock : View) (span : Span) (live : List mapper.Run) (refused : Refusals) → IsHandedBack facts lock span live refused → span ≡ span_at facts.start
 span_left facts lock span live refused left =
     let lower = left.lower in let upper = left.upper in let size = left.size in λ i. record { lower = lower i; upper = upper i; size = size i }
@@ -159,7 +184,7 @@ pub span_opened : (facts : Facts) (span : Span) (live : List mapper.Run) (refuse
 span_opened facts span live refused fresh =
     let lower = fresh.lower in let upper = fresh.upper in let size = fresh.size in λ i. record { lower = lower i; upper = upper i; size = size i }
 
-counts_opened : (facts : Facts) (span : Span) (live : List mapper.Run) (refused : Refusals) → IsFreshMapper facts.start span live refused → refused.most ≡ facts.most → counts_of refused ≡ counts_at facts
+pub counts_opened : (facts : Facts) (span : Span) (live : List mapper.Run) (refused : Refusals) → IsFreshMapper facts.start span live refused → refused.most ≡ facts.most → counts_of refused ≡ counts_at facts
 counts_opened facts span live refused fresh most =
     let count = fresh.count in λ i. record { refusals = count i; most = most i }
 

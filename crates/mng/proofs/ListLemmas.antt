@@ -5,7 +5,8 @@ use Rattle.std.specs.List.{slice_split}
 use Rattle.std.proofs.lemmas.Bool.{and_parts}
 use Rattle.std.proofs.lemmas.List.{at_drop_more, at_drop_all}
 use Rattle.std.proofs.lemmas.List.Elements.{All-nil, All-cons, All-head, All-tail}
-use Rattle.mng.specs.Words.{number_of, IsCallNumber, IsList, IsPages}
+use Rattle.ng_script.specs.Numbers.{number_of}
+use Rattle.mng.specs.Words.{IsCallNumber, IsList, IsPages}
 use Rattle.mng.specs.Givens.{number_added, numbers_added, list_of, pages_of}
 use borrow.Author.Tests.{ltb-true, leb-true, le-leb, lt-ltb}
 

@@ -6,11 +6,11 @@ use Rattle.std.specs.List.{filter_map, flat_map}
 use Rattle.std.specs.Str.{bytes_eq}
 use Rattle.std.proofs.lemmas.List.{take_all}
 use Rattle.std.proofs.lemmas.Slice.Eq.{bytes_eq-Decides}
-use Rattle.mng.specs.Words.{texts_of, name_of, words_of, is_calls, pages_text, refuse_text, IsPages, IsList, MeansAtMostOne, Asked, AsksSpace, InLanguage, IsCommand, ShowsCalls}
-use Rattle.mng.specs.Givens.{calls_added, pair_added, options_added, given_of}
+use Rattle.mng.specs.Words.{texts_of, name_of, words_of, is_calls, pages_text, refuse_text, IsPages, IsList, MayShow, MeansAtMostOne, Asked, AsksSpace, InLanguage, IsCommand, ShowsCalls}
+use Rattle.mng.specs.Givens.{allowed, calls_added, pair_added, options_added, given_of}
 use Rattle.mng.specs.declared.asked.Given.{Given}
 use Rattle.mng.specs.declared.verb.Verb.{Verb}
-use Rattle.mng.specs.declared.verb.Verb.TheVariants.{Serial, Replay}
+use Rattle.mng.specs.declared.verb.Verb.TheVariants.{Serial, Replay, Drill}
 use Rattle.mng.proofs.OptionLemmas.{one_if, chosen, AreOptions, options-taken, options_added-are, options_added-calls, means-from_Adds, adds-from_means}
 
 nothing : Given
@@ -20,25 +20,51 @@ nothing = record { calls_shown = false; pages = None; refuse = None }
 asked_of : Given → Asked
 asked_of given = record { calls_shown = given.calls_shown; pages = unwrap_or given.pages 4096; refuse = unwrap_or given.refuse [] }
 
-command-from_options : (verb : Verb) (name : List ℕ) (texts : List (List ℕ)) (given : Given) → bytes_eq name (name_of verb) ≡ true → AreOptions nothing texts given → IsCommand verb (name ∷ texts) (asked_of given)
+command-from_options : (verb : Verb) (name : List ℕ) (texts : List (List ℕ)) (given : Given) → bytes_eq name (name_of verb) ≡ true → MayShow verb given.calls_shown
+    → AreOptions nothing texts given → IsCommand verb (name ∷ texts) (asked_of given)
 unfolding nothing asked_of
-command-from_options verb name texts given named are =
+command-from_options verb name texts given named may are =
     let calls : count_by is_calls are.options + 0 ≡ one_if given.calls_shown = are.extends.calls in
     record {
       options = are.options;
       words = ap (λ (n : List ℕ). n ∷ texts) ((bytes_eq-Decides name (name_of verb)).0 named) ∙ ap (λ (ts : List (List ℕ)). name_of verb ∷ ts) are.words;
       calls_shown = omega arith;
+      may_show = may;
       pages = means-from_Adds IsPages 4096 (filter_map pages_text are.options) given.pages are.extends.pages;
       refuse = means-from_Adds IsList [] (filter_map refuse_text are.options) given.refuse are.extends.refuse;
     }
+
+-- what a command takes of what was given
+record IsTaken (verb : Verb) (added : Option Given) (given : Given) : Type 0 where
+  pub added_is : added ≡ Some given
+  pub may : MayShow verb given.calls_shown
+
+taken-from_Some : (verb : Verb) (added : Option Given) (given : Given) → Some given ≡ option_and_then (allowed verb) added → IsTaken verb added given
+taken-from_Some verb None given is = absurd (cc)
+taken-from_Some Serial (Some more) given is = record { added_is = sym is; may = tt }
+taken-from_Some Replay (Some more) given is = record { added_is = sym is; may = tt }
+taken-from_Some Drill (Some more) given is = shown more.calls_shown refl is
+  where
+    shown : (b : Bool) → more.calls_shown ≡ b → Some given ≡ cond b None (Some more) → IsTaken Drill (Some more) given
+    shown true on rest = absurd (cc)
+    shown false off rest =
+        let same : more ≡ given = cc in
+        record { added_is = sym rest; may = subst (λ (g : Given). g.calls_shown ≡ false) same off }
+
+allowed-may : (verb : Verb) (given : Given) → MayShow verb given.calls_shown → allowed verb given ≡ Some given
+allowed-may Serial given may = refl
+allowed-may Replay given may = refl
+allowed-may Drill given may = rw may refl
 
 IsCommand-from_Some : (verb : Verb) (texts : List (List ℕ)) (given : Given) → Some given ≡ given_of verb texts → IsCommand verb texts (asked_of given)
 unfolding given_of nothing
 IsCommand-from_Some verb [] given is = absurd (cc)
 IsCommand-from_Some verb (name ∷ texts) given is = by_name (bytes_eq name (name_of verb)) refl is
   where
-    by_name : (a : Bool) → bytes_eq name (name_of verb) ≡ a → Some given ≡ cond a (options_added nothing texts) None → IsCommand verb (name ∷ texts) (asked_of given)
-    by_name true named rest = command-from_options verb name texts given named (options-taken nothing given texts (sym rest))
+    by_name : (a : Bool) → bytes_eq name (name_of verb) ≡ a → Some given ≡ cond a (option_and_then (allowed verb) (options_added nothing texts)) None → IsCommand verb (name ∷ texts) (asked_of given)
+    by_name true named rest =
+        let taken : IsTaken verb (options_added nothing texts) given = taken-from_Some verb (options_added nothing texts) given rest in
+        command-from_options verb name texts given named taken.may (options-taken nothing given texts taken.added_is)
     by_name false named rest = absurd (cc)
 
 -- what the words give, as the contracts say it
@@ -66,10 +92,12 @@ AsksSpace-bounds verb texts pages refuse asks =
     rw size bounds
 
 -- the words behind a command's name
-given_of-named : (verb : Verb) (texts : List (List ℕ)) → given_of verb (name_of verb ∷ texts) ≡ options_added (record { calls_shown = false; pages = None; refuse = None }) texts
+given_of-named : (verb : Verb) (texts : List (List ℕ)) → given_of verb (name_of verb ∷ texts)
+    ≡ option_and_then (allowed verb) (options_added (record { calls_shown = false; pages = None; refuse = None }) texts)
 unfolding given_of
 given_of-named Serial texts = refl
 given_of-named Replay texts = refl
+given_of-named Drill texts = refl
 
 -- the words of a command give something
 given_of-command : (verb : Verb) (texts : List (List ℕ)) (asked : Asked) (command : IsCommand verb texts asked)
@@ -79,13 +107,14 @@ given_of-command verb texts asked command =
     let calls : count_by is_calls command.options ≡ one_if asked.calls_shown = command.calls_shown in
     ap (given_of verb) command.words
     ∙ given_of-named verb (flat_map words_of command.options)
-    ∙ options_added-are command.options (record { calls_shown = false; pages = None; refuse = None })
+    ∙ ap (option_and_then (allowed verb)) (options_added-are command.options (record { calls_shown = false; pages = None; refuse = None })
     (record { calls_shown = asked.calls_shown; pages = chosen IsPages (filter_map pages_text command.options) asked.pages; refuse = chosen IsList (filter_map refuse_text command.options) asked.refuse })
     (record {
       calls = omega arith;
       pages = adds-from_means IsPages 4096 (filter_map pages_text command.options) asked.pages command.pages;
       refuse = adds-from_means IsList [] (filter_map refuse_text command.options) asked.refuse command.refuse;
-    })
+    }))
+    ∙ allowed-may verb (record { calls_shown = asked.calls_shown; pages = chosen IsPages (filter_map pages_text command.options) asked.pages; refuse = chosen IsList (filter_map refuse_text command.options) asked.refuse }) command.may_show
 
 pub no_language : (verb : Verb) (texts : List (List ℕ)) → None ≡ given_of verb texts → ¬ InLanguage verb texts
 no_language verb texts none language =

@@ -33,9 +33,9 @@ number_at books log = (slice_index_or books log (record { number = 0; spare = 0;
 
 -- the words are a lawful image of the mapper's space, between its bounds and over its live runs, with what the lock's seat,
 -- which leads, and the hands knew at the end: each noted run is the mapper's, and an area or that of a live group, and metas
--- without a group are blank. Each hand has one book, and no view is that of a parcel on its way. The blocks in the hands are
--- framed, in groups whose class may serve them, and they are those that live after the history
-pub record IsImageOf (secret : ℕ) (span : Span) (words : List ℕ) (live : List mapper.Run) (history : List Event) : Type 0 where
+-- without a group are blank. Each hand has one book, and no view is that of a parcel on its way. The blocks in the hands are in
+-- groups whose class may serve them, and they are those that live after the history
+pub record IsLawfulOf (secret : ℕ) (span : Span) (words : List ℕ) (live : List mapper.Run) (history : List Event) : Type 0 where
   pub start : Start
   pub secret_is : start.secret ≡ secret
   pub pages_are : start.pages ≡ span.size
@@ -54,5 +54,9 @@ pub record IsImageOf (secret : ℕ) (span : Span) (words : List ℕ) (live : Lis
   pub still : lock.held ≡ []
   pub whole : (view : View) → Among view (lock ∷ hands) → view.parcel ≡ false
   pub booked : (hand : View) → Among hand hands → (b : Book) × (hand.books ≡ b ∷ [])
-  pub framed : (hand : View) → Among hand hands → AreFramed hand
   pub blocks_are : (b : Extent) → total_by (λ (c : Extent). count_of (same_extent c b)) (live_after history) ≡ total_by (blocks b) (lock ∷ hands)
+
+-- and the blocks in the hands are framed
+pub record IsImageOf (secret : ℕ) (span : Span) (words : List ℕ) (live : List mapper.Run) (history : List Event) : Type 0 where
+  pub lawful : IsLawfulOf secret span words live history
+  pub framed : (hand : View) → Among hand lawful.hands → AreFramed hand

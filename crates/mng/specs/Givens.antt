@@ -2,9 +2,11 @@
 use Rattle.std.specs.Prelude.{ℕ, ◌∷◌, [], ◌++◌, ◌==◌, ◌&&◌, true, false, List, length, codes, if◌then◌else◌, nat_le, nat_lt, Option, Some, None, option_and_then, is_some}
 use Rattle.std.specs.List.{slice_split}
 use Rattle.std.specs.Str.{bytes_eq}
-use Rattle.mng.specs.Words.{number_of, name_of}
+use Rattle.ng_script.specs.Numbers.{number_of}
+use Rattle.mng.specs.Words.{name_of}
 use Rattle.mng.specs.declared.asked.Given.{Given}
 use Rattle.mng.specs.declared.verb.Verb.{Verb}
+use Rattle.mng.specs.declared.verb.Verb.TheVariants.{Serial, Replay, Drill}
 
 -- the pages that a text asks for
 unfoldable pub pages_of : List ℕ → Option ℕ
@@ -56,8 +58,16 @@ options_added given (option ∷ text ∷ texts) =
     if bytes_eq option (codes "--calls") then option_and_then (λ more. options_added more (text ∷ texts)) (calls_added given)
     else option_and_then (λ more. options_added more texts) (pair_added given option text)
 
+-- what was given, where the command may show calls or isn't to
+abbrev pub allowed : Verb → Given → Option Given
+allowed Serial given = Some given
+allowed Replay given = Some given
+allowed Drill given = if given.calls_shown then None else Some given
+
 -- what texts give that begin with the command's name
 unfoldable pub given_of : Verb → List (List ℕ) → Option Given
 given_of verb [] = None
 given_of verb (name ∷ texts) =
-    if bytes_eq name (name_of verb) then options_added (record { calls_shown = false; pages = None; refuse = None }) texts else None
+    if bytes_eq name (name_of verb)
+    then option_and_then (allowed verb) (options_added (record { calls_shown = false; pages = None; refuse = None }) texts)
+    else None

@@ -6,3 +6,5 @@ pub mod Closed
 pub mod Opened
 pub mod Causes
 pub mod Tool
+pub mod Scripts
+pub mod Drill

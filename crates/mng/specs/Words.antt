@@ -1,26 +1,15 @@
 -- The command-line language.
 use Rattle.std.specs.Prelude.{◌≡◌, ℕ, ◌^◌, ◌≤◌, Bool, true, false, List, ◌∷◌, [], ◌==◌, ◌&&◌, String, codes, if◌then◌else◌, All, length, drop, map, count_by, nat_le, nat_lt, nat_eq, string_bytes, Option, Some, None}
-use Rattle.std.specs.Char.{is_digit}
+use Rattle.std.specs.Str.{bytes_eq}
 use Rattle.std.specs.List.{filter_map, flat_map, list_all, slice_split, starts_with}
-use Rattle.std.specs.Str.Parse.{digits_value}
 use Rattle.std.specs.declared.alloc.Global.{Global}
+use Rattle.ng_script.specs.Numbers.{number_of}
 use Rattle.mng.specs.declared.verb.Verb.{Verb}
-use Rattle.mng.specs.declared.verb.Verb.TheVariants.{Serial, Replay}
+use Rattle.mng.specs.declared.verb.Verb.TheVariants.{Serial, Replay, Drill}
 
 -- the bytes of each word
 abbrev pub texts_of : List (String Global) → List (List ℕ)
 texts_of words = map (λ word. string_bytes word) words
-
--- the number that digits of this base write: one or more, all of them digits, and the number is below 2 ^ 64
-unfoldable pub value_of : ℕ → List ℕ → Option ℕ
-value_of base digits =
-    if nat_le 1 (length digits) && list_all (λ byte. is_digit byte base) digits && nat_lt (digits_value base digits) (2 ^ 64)
-    then Some (digits_value base digits)
-    else None
-
--- the number that a text writes: `0x` and hexadecimal digits of either case, or decimal digits
-unfoldable pub number_of : List ℕ → Option ℕ
-number_of text = if starts_with nat_eq text (codes "0x") then value_of 16 (drop 2 text) else value_of 10 text
 
 -- a text writes a number of pages that a space may have
 pub record IsPages (text : List ℕ) (pages : ℕ) : Type 0 where
@@ -76,6 +65,23 @@ MeansAtMostOne Means common (text ∷ other ∷ texts) value = ⊥
 abbrev pub name_of : Verb → List ℕ
 name_of Serial = codes "serial"
 name_of Replay = codes "replay"
+name_of Drill = codes "drill"
+
+-- a drill has no option to show calls
+abbrev pub MayShow : Verb → Bool → Type 0
+MayShow Serial shown = Unit {0}
+MayShow Replay shown = Unit {0}
+MayShow Drill shown = shown ≡ false
+
+-- the first text is the name of the drill
+abbrev pub is_drill : List (List ℕ) → Bool
+is_drill [] = false
+is_drill (name ∷ texts) = bytes_eq name (codes "drill")
+
+-- this where the texts ask for a drill, and else that
+abbrev pub OfDrill : Bool → Type 0 → Type 0 → Type 0
+OfDrill true drill logs = drill
+OfDrill false drill logs = logs
 
 -- what a command asks: whether a line is shown for each call, the pages of the space, and the numbers of the map calls to refuse
 pub record Asked : Type 0 where
@@ -88,6 +94,7 @@ pub record IsCommand (verb : Verb) (texts : List (List ℕ)) (asked : Asked) : T
   pub options : List Choice
   pub words : texts ≡ name_of verb ∷ flat_map words_of options
   pub calls_shown : count_by is_calls options ≡ (if asked.calls_shown then 1 else 0)
+  pub may_show : MayShow verb asked.calls_shown
   pub pages : MeansAtMostOne IsPages 4096 (filter_map pages_text options) asked.pages
   pub refuse : MeansAtMostOne IsList [] (filter_map refuse_text options) asked.refuse
 

@@ -1,16 +1,18 @@
 // The memory of a heap, before it has its name.
-ghost use Rattle.std.specs.Prelude.{◌≡◌, ◌<◌, ◌≤◌, ◌*◌, ◌^◌, [], IfOk, length, map, vec_capacity};
-ghost use Rattle.mng.specs.Closed.{program_secret};
-ghost use Rattle.ng_group.specs.Opening.{AreEmpty};
+ghost use Rattle.std.specs.Prelude.{◌≡◌, ◌<◌, ◌≤◌, ◌*◌, ◌^◌, ◌∷◌, [], IfOk, length, map, vec_capacity};
+ghost use Rattle.ng_drill.specs.Caps as caps;
+ghost use Rattle.mng.specs.Opened.{IsFreshOver, IsStartOver};
 ghost use Rattle.ng_replay.specs.Books.{rooms_for};
 ghost use Rattle.ng_replay.specs.Serving.{IsCapOf};
 ghost use Rattle.ng_terms.specs.Calls.{op_count};
+ghost use Rattle.ng_terms.specs.Heap.{large};
 ghost use Rattle.ng_view.specs.Layouts.{InRange};
 
 use crate::closed::Closed;
 use ng_group::Tables;
 use ng_mapper::Mapper;
 use ng_replay::cap_of;
+use ng_script::Script;
 use ng_space::{Blank, Start};
 use ng_terms::{Host, Items, Op, Plan};
 use std::alloc::{AllocError, Global};
@@ -39,19 +41,42 @@ impl Fresh {
         requires least { 16 ≤ (M.span mapper.now).size }
         requires most { (M.span mapper.now).size ≤ 16384 }
         requires refusals { (M.refused mapper.now).count < 2 ^ 62 }
+        ensures fits { IfOk result (λ fresh. IsFreshOver (M.span mapper.now) (M.refused mapper.now) fresh.blank fresh.tables) }
         ensures rooms { IfOk result (λ fresh. fresh.blank.rooms ≡ rooms_for plan.now) }
-        ensures pages { IfOk result (λ fresh. fresh.blank.start.pages ≡ (M.span mapper.now).size) }
-        ensures lower { IfOk result (λ fresh. fresh.blank.start.lower ≡ (M.span mapper.now).lower) }
-        ensures upper { IfOk result (λ fresh. fresh.blank.start.upper ≡ (M.span mapper.now).upper) }
-        ensures refused { IfOk result (λ fresh. fresh.blank.start.refusals ≡ (M.refused mapper.now).count) }
-        ensures secret { IfOk result (λ fresh. fresh.blank.start.secret ≡ program_secret) }
         ensures cap { IfOk result (λ fresh. IsCapOf fresh.blank.start.cap plan.now) }
-        ensures tables { IfOk result (λ fresh. AreEmpty (M.span mapper.now).size fresh.tables) }
     {
         let Ok(rooms) = rooms(alloc, plan.logs.as_slice()) else {
             return Err(Host);
         };
-        let blank = Blank::new(alloc, start_of(mapper, plan), rooms.as_slice())?;
+        Fresh::over(alloc, mapper, cap_of(plan), rooms.as_slice())
+    }
+
+    /// Takes the memory of a heap for a script, over a mapper.
+    pub fn for_script<M: Mapper>(alloc: Global, script: &Script, mapper: &M) -> Result<Fresh, Host>
+        requires short { length script.now.commands ≤ 1000000 }
+        requires least { 16 ≤ (M.span mapper.now).size }
+        requires most { (M.span mapper.now).size ≤ 16384 }
+        requires refusals { (M.refused mapper.now).count < 2 ^ 62 }
+        ensures fits { IfOk result (λ fresh. IsFreshOver (M.span mapper.now) (M.refused mapper.now) fresh.blank fresh.tables) }
+        ensures rooms { IfOk result (λ fresh. fresh.blank.rooms ≡ length script.now.commands ∷ []) }
+        ensures cap { IfOk result (λ fresh. caps.IsCapOf script.now.commands fresh.blank.start.cap) }
+    {
+        let rooms = [script.commands.len() as u64];
+        Fresh::over(alloc, mapper, ng_drill::cap_of(script), &rooms)
+    }
+
+    // Takes the memory of a heap over a mapper: its cells and tables, and a book with room for so many entries for each hand.
+    fn over<M: Mapper>(alloc: Global, mapper: &M, cap: u64, rooms: &[u64]) -> Result<Fresh, Host>
+        requires few { length rooms.now ≤ 16 }
+        requires small { cap < large }
+        requires least { 16 ≤ (M.span mapper.now).size }
+        requires most { (M.span mapper.now).size ≤ 16384 }
+        requires refusals { (M.refused mapper.now).count < 2 ^ 62 }
+        ensures fits { IfOk result (λ fresh. IsFreshOver (M.span mapper.now) (M.refused mapper.now) fresh.blank fresh.tables) }
+        ensures rooms { IfOk result (λ fresh. fresh.blank.rooms ≡ rooms.now) }
+        ensures cap { IfOk result (λ fresh. fresh.blank.start.cap ≡ cap) }
+    {
+        let blank = Blank::new(alloc, start_of(mapper, cap), rooms)?;
         let tables = Tables::new(alloc, mapper.pages())?;
         let Ok(closed) = Vec::with_capacity(alloc, 1) else {
             return Err(Host);
@@ -64,18 +89,15 @@ impl Fresh {
     }
 }
 
-/// What a heap over the mapper starts with, for the ops of a plan.
-fn start_of<M: Mapper>(mapper: &M, plan: &Plan) -> Start
+/// What a heap over the mapper starts with, where no request below the limit is above the cap.
+fn start_of<M: Mapper>(mapper: &M, cap: u64) -> Start
+    requires small { cap < large }
     requires least { 16 ≤ (M.span mapper.now).size }
     requires most { (M.span mapper.now).size ≤ 16384 }
     requires refusals { (M.refused mapper.now).count < 2 ^ 62 }
     ensures range { InRange result }
-    ensures pages { result.pages ≡ (M.span mapper.now).size }
-    ensures lower { result.lower ≡ (M.span mapper.now).lower }
-    ensures upper { result.upper ≡ (M.span mapper.now).upper }
-    ensures refused { result.refusals ≡ (M.refused mapper.now).count }
-    ensures secret { result.secret ≡ program_secret }
-    ensures cap { IsCapOf result.cap plan.now }
+    ensures start { IsStartOver (M.span mapper.now) (M.refused mapper.now) result }
+    ensures cap { result.cap ≡ cap }
 {
     let (lower, upper) = mapper.bounds();
     Start {
@@ -84,7 +106,7 @@ fn start_of<M: Mapper>(mapper: &M, plan: &Plan) -> Start
         upper,
         secret: SECRET,
         refusals: mapper.refusals(),
-        cap: cap_of(plan),
+        cap,
     }
 }
 

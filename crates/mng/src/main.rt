@@ -5,6 +5,9 @@ mod asked;
 mod beside;
 mod choices;
 mod closed;
+#[cfg(test)]
+mod drill_tests;
+mod drilling;
 mod ending;
 mod fresh;
 mod numbers;
@@ -13,6 +16,7 @@ mod replaying;
 #[cfg(test)]
 mod replaying_tests;
 mod run;
+mod scripting;
 mod status;
 #[cfg(test)]
 mod tests;

@@ -1,8 +1,7 @@
 ghost use Rattle.std.specs.Prelude.{◌≡◌, ◌⊎◌, [], length};
-ghost use Rattle.mng.specs.Closed.{program_secret};
+ghost use Rattle.mng.specs.Opened.{IsNamed};
 ghost use Rattle.mng.specs.Statuses.{IsLate};
 ghost use Rattle.mng.specs.Tool.{Ends};
-ghost use Rattle.ng_group.specs.Opening.{AreEmpty, IsFreshMapper};
 ghost use Rattle.ng_plan.specs.Sound.{IsSound};
 ghost use Rattle.ng_replay.specs.Books.{rooms_for};
 ghost use Rattle.ng_replay.specs.Serving.{IsCapOf, counts_of};
@@ -33,14 +32,9 @@ pub fn run<N: Name, O: Sink, M: Mapper, P: Rules + Drop>(
     out: &mut O,
 ) -> (Status, M, Vec<Closed>)
     requires good { P.good policy }
-    requires table { fresh.blank.table ≡ N.facts.table }
-    requires start { fresh.blank.start ≡ N.facts.start }
-    requires secret { N.facts.start.secret ≡ program_secret }
+    requires named { IsNamed N.facts (M.span mapper) (M.runs mapper) (M.refused mapper) fresh.blank fresh.tables }
     requires sound { IsSound prepared.plan }
     requires rooms { fresh.blank.rooms ≡ rooms_for prepared.plan }
-    requires tables { AreEmpty N.facts.start.pages fresh.tables }
-    requires mapper { IsFreshMapper N.facts.start (M.span mapper) (M.runs mapper) (M.refused mapper) }
-    requires most { (M.refused mapper).most ≡ N.facts.most }
     requires hands { length prepared.plan.logs ≡ N.facts.hands }
     requires cap { IsCapOf N.facts.start.cap prepared.plan }
     ensures late { (result.0 ≡ Status.Host) ⊎ IsLate result.0 }

@@ -8,6 +8,8 @@ pub enum Verb {
     Serial,
     /// Does the ops of each log beside those of the others.
     Replay,
+    /// Does the commands of a script.
+    Drill,
 }
 
 impl Verb {
@@ -18,6 +20,7 @@ impl Verb {
         match self {
             Verb::Serial => "serial",
             Verb::Replay => "replay",
+            Verb::Drill => "drill",
         }
     }
 }

@@ -1,11 +1,12 @@
 ghost use Rattle.std.specs.Prelude.{◌≡◌, ◌≢◌, ◌≤◌, ◌↔◌, IfOk, IfErr, IfSome, IfNone, Err, Some, None, [], unwrap_or};
-ghost use Rattle.mng.specs.Words.{texts_of, value_of, number_of, AsksSpace, InLanguage, ShowsCalls};
-ghost use Rattle.mng.specs.Givens.{pages_of, list_of, number_added, calls_added, pages_added, refuse_added, pair_added, options_added, given_of};
+ghost use Rattle.mng.specs.Words.{texts_of, AsksSpace, InLanguage, ShowsCalls};
+ghost use Rattle.mng.specs.Givens.{allowed, pages_of, list_of, number_added, calls_added, pages_added, refuse_added, pair_added, options_added, given_of};
 
 use crate::asked::{Command, Given, Setup};
 use crate::numbers::Numbers;
 use crate::status::Status;
 use crate::verb::Verb;
+use ng_script::number;
 use ng_terms::{Host, Items};
 use std::alloc::Global;
 
@@ -61,7 +62,10 @@ fn given_by_any(words: &[String]) -> Option<Given>
 {
     match given(words, Verb::Serial) {
         Some(given) => Some(given),
-        None => given(words, Verb::Replay),
+        None => match given(words, Verb::Replay) {
+            Some(given) => Some(given),
+            None => given(words, Verb::Drill),
+        },
     }
 }
 
@@ -71,15 +75,25 @@ fn given(words: &[String], verb: Verb) -> Option<Given>
     ensures { result ≡ given_of verb (texts_of words.now) }
 {
     match words {
-        [name, options @ ..] if name.as_str() == verb.name() => with_options(
-            Given {
+        [name, options @ ..] if name.as_str() == verb.name() => {
+            let nothing = Given {
                 calls_shown: false,
                 pages: None,
                 refuse: None,
-            },
-            options,
-        ),
+            };
+            allowed(verb, with_options(nothing, options)?)
+        }
         _ => None,
+    }
+}
+
+/// What was given, where the command takes it.
+fn allowed(verb: Verb, given: Given) -> Option<Given>
+    ensures { result ≡ allowed verb given }
+{
+    match verb {
+        Verb::Drill if given.calls_shown => None,
+        _ => Some(given),
     }
 }
 
@@ -163,7 +177,7 @@ fn with_refuse(given: Given, text: &str) -> Option<Given>
 fn pages(text: &str) -> Option<u32>
     ensures { result ≡ pages_of text.now }
 {
-    let number = number(text)?;
+    let number = number(text.as_bytes())?;
     if 16 <= number && number <= 16384 {
         Some(number as u32)
     } else {
@@ -187,36 +201,10 @@ fn list(text: &str) -> Option<Numbers>
 fn with_number(mut numbers: Numbers, text: &str) -> Option<Numbers>
     ensures { result ≡ number_added numbers text.now }
 {
-    let number = number(text)?;
+    let number = number(text.as_bytes())?;
     if 1 <= number && number <= 1_000_000 && numbers.push(number) {
         Some(numbers)
     } else {
         None
-    }
-}
-
-/// The number that a text writes: `0x` and hexadecimal digits, or decimal digits.
-fn number(text: &str) -> Option<u64>
-    ensures { result ≡ number_of text.now }
-{
-    match text.strip_prefix("0x") {
-        Some(digits) => value(digits, 16),
-        None => value(text, 10),
-    }
-}
-
-/// The number that digits of this base write.
-fn value(digits: &str, base: u32) -> Option<u64>
-    requires least { 2 ≤ base }
-    requires most { base ≤ 36 }
-    ensures { result ≡ value_of base digits.now }
-{
-    // `from_str_radix` passes over a sign.
-    if digits.starts_with('+') {
-        return None;
-    }
-    match u64::from_str_radix(digits, base) {
-        Ok(number) => Some(number),
-        Err(_) => None,
     }
 }

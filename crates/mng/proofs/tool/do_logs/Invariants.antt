@@ -1,5 +1,5 @@
 use Rattle.std.specs.Prelude.{length}
-use Rattle.mng.proofs.tool.tool.Given as goal
+use Rattle.mng.proofs.tool.do_logs.Given as goal
 
 -- the name of the heap whose memory was just taken
 abbrev pub ghosts-run : goal.ghosts-run
