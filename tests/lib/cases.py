@@ -1,6 +1,8 @@
 """The cases of tests/cases, and what tests of the tools share."""
 import os
 
+from following import Mode
+
 ROOT = os.path.dirname(os.path.dirname(os.path.dirname(os.path.abspath(__file__))))
 CASES = os.path.join(ROOT, 'tests/cases')
 
@@ -22,3 +24,9 @@ def words_of(case):
 
 def option(words, name, other):
     return words[words.index(name) + 1] if name in words else other
+
+
+def mode_of(words):
+    """How a case's makes are done."""
+    align = option(words, '--align', None)
+    return Mode(None if align is None else int(align, 0), '--zero' in words)

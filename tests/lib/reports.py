@@ -2,7 +2,9 @@
 
 - Each op has the reply that fits its line and what stands for the op whose block it takes, by the plan and log by log.
 - A block lies at a multiple of 16, with header and trailer inside the space.
-- TooLarge comes exactly by the size. Refusals have numbers of their own, from 1 on, which rise along each log.
+- TooLarge and BadAlign come exactly by size and alignment. Refusals have numbers of their own, from 1 on, which rise along
+  each log.
+- A move whose address stays is a resize in place; else it is a make and then a free.
 - The twelve counts follow from the replies.
 - No two live blocks overlap, in some order of all calls that keeps each log's own and has the giver of a hand-off before
   its taker. What the order must be so that two blocks are apart is followed until nothing more follows; an order that
@@ -12,7 +14,8 @@ import re
 from collections import Counter, deque
 from dataclasses import dataclass, field
 
-from heap import TOO_LARGE
+from following import Mode
+from heap import TOO_LARGE, TOO_LARGE_ALIGN
 from logs import ops_of, read_logs
 from policy import GROUP_HEAD, HEADER, PAGE, THRESHOLD, UNIT, pages_of
 
@@ -44,6 +47,7 @@ class Block:
     address: int
     units: range
     given: Moment
+    is_aligned: bool
     taken: Moment = None
 
     def begins_in_life_of(self, other):
@@ -51,9 +55,10 @@ class Block:
         return other.taken is None or self.given.is_before(other.taken)
 
 
-def units_of(address, size):
-    """A unit begins 4 bytes early, at a header. A block that is of no class has a run of pages."""
-    if size < THRESHOLD:
+def units_of(address, size, is_aligned):
+    """A unit begins 4 bytes early, at a header. A block that is of no class has a run of pages, but where in it an aligned one
+    lies can't be told."""
+    if size < THRESHOLD or is_aligned:
         return range(address // UNIT, (address + size + HEADER - 1) // UNIT + 1)
     first = (address - GROUP_HEAD) // PAGE
     return range(first * PAGE // UNIT, (first + pages_of(size + HEADER + GROUP_HEAD)) * PAGE // UNIT)
@@ -112,8 +117,8 @@ def overlapping(blocks):
 class Report:
     """The replies of a report, op by op in the plan's order."""
 
-    def __init__(self, text, logs, pages):
-        self.pages = pages
+    def __init__(self, text, logs, pages, mode):
+        self.pages, self.mode = pages, mode
         self.lines, self.counts = [deque() for _ in logs], []
         self.order = Order(len(logs))
         self.blocks, self.standing, self.ends = [], [], []
@@ -159,36 +164,50 @@ class Report:
             word, count = ('skip', 'skipped') if op.source is None else ('none', 'absent')
             self.expect(log, f'{word} 0x{line.old:x}')
             self.tally[count] += 1
-        came = self.make(log, line, block, gives) if line.new else None
+        came = self.make(log, line, block, (gives, takes)) if line.new else None
         if block and not line.new:
             self.expect(log, f'free 0x{block.address:x}')
-        if block and (came or not line.new):
+        if block and block.taken is None and (came or not line.new):
             block.taken = takes
             self.tally['taken'] += 1
         self.tally['calls'] += bool(line.new or block)
         self.standing.append(came or (block if line.new else None))
 
-    def make(self, log, line, block, gives):
-        """The block that a make or a move gets, or None."""
-        answer = self.take(log, (f'realloc 0x{block.address:x} ' if block else 'malloc ') + f'0x{line.size:x}')
-        if (line.size >= TOO_LARGE) != (answer == 'TooLarge'):
+    def make(self, log, line, block, moments):
+        """The block that a make or a move gets, or None. A move's has the common alignment."""
+        mode = Mode() if block else self.mode
+        answer = self.take(log, (f'realloc 0x{block.address:x}' if block else mode.words()) + f' 0x{line.size:x}')
+        refusal, number = self.refusal_of(mode, line.size), REFUSAL.fullmatch(answer)
+        if refusal is None and ADDRESS.fullmatch(answer):
+            return self.place(int(answer, 16), line.size, block, moments)
+        if answer != refusal if refusal else not number:
             raise Fault(f'{answer} for 0x{line.size:x} bytes')
-        number = REFUSAL.fullmatch(answer)
         if number:
             self.numbers[log].append(int(number[1]))
-        elif ADDRESS.fullmatch(answer):
-            return self.give(int(answer, 16), line.size, gives)
-        elif answer != 'TooLarge':
-            raise Fault(f'no answer to a make: {answer}')
-        self.tally['nomemory' if number else 'toolarge'] += 1
+        self.tally[(refusal or 'NoMemory').lower()] += 1
         return None
 
-    def give(self, address, size, gives):
-        units = units_of(address, size)
-        if address % UNIT or units.start < PAGE // UNIT or units.stop * UNIT > self.pages * PAGE:
-            raise Fault(f'0x{size:x} bytes at 0x{address:x} are not inside the space, or not at a multiple of 16')
-        self.tally['given'] += 1
-        self.blocks.append(Block(address, units, gives))
+    @staticmethod
+    def refusal_of(mode, size):
+        """The refusal that a make must have by its alignment and its size, or None."""
+        align = max(mode.units(), UNIT)
+        if mode.is_bad():
+            return 'BadAlign'
+        return 'TooLarge' if align >= TOO_LARGE_ALIGN or size + align - UNIT >= TOO_LARGE else None
+
+    def place(self, address, size, block, moments):
+        """The block that lies at an address now: a new one, or one that was resized there."""
+        gives, takes = moments
+        stays = block is not None and block.address == address
+        align = UNIT if block else max(self.mode.units(), UNIT)
+        is_aligned = block.is_aligned if stays else align > UNIT
+        units = units_of(address, size, is_aligned)
+        if address % align or units.start < PAGE // UNIT or units.stop * UNIT > self.pages * PAGE:
+            raise Fault(f'0x{size:x} bytes at 0x{address:x} are not inside the space, or not at a multiple of {align}')
+        if stays:
+            block.taken = gives
+        self.tally['resized' if stays else 'given'] += 1
+        self.blocks.append(Block(address, units, takes if stays else gives, is_aligned))
         return self.blocks[-1]
 
     def check_counts(self, may_refuse):
@@ -217,11 +236,11 @@ class Report:
             pairs = [pair for pair in pairs if not self.order.parts(*pair)]
 
 
-def check(log, text, pages=4096, may_refuse=True):
+def check(log, text, pages=4096, may_refuse=True, mode=Mode()):
     """Raises Fault where the output can't be a report of replay on these logs. The counts of ops, hand-offs and refusals."""
     logs = read_logs(log)
     ops = ops_of(logs)
-    report = Report(text, logs, pages)
+    report = Report(text, logs, pages, mode)
     for op in ops:
         report.do(op, None if op.source is None else ops[op.source].log)
     report.check_counts(may_refuse)

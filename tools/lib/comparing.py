@@ -90,8 +90,8 @@ def places_of(calls):
 class Comparison:
     """Counts what is the same. An offset of musl's must be the one that its own earlier ones give, or be unknown."""
 
-    def __init__(self, calls, resizes):
-        self.calls, self.resizes = calls, resizes
+    def __init__(self, calls):
+        self.calls = calls
         self.same = dict.fromkeys(FIELDS, 0)
         self.causes = {REUSED: [], LONG: []}
         self.others = []
@@ -157,10 +157,7 @@ class Comparison:
         for cause, found in self.causes.items():
             yield f'offsets that differ by {cause}: {len(found)}'
             yield from (f'  {words}' for words in found[:most])
-        if not self.resizes:
-            yield 'each move is a make and a free, in this mng and so for musl'
-        else:
-            yield f'{RESIZED}, moved in both: {calls.resized_lone}'
-            yield f'resized in place here, and left by musl for its own offset: {self.left}'
+        yield f'{RESIZED}, moved in both: {calls.resized_lone}'
+        yield f'resized in place here, and left by musl for its own offset: {self.left}'
         yield f'other differences: {len(self.others)}'
         yield from (f'  {words}' for words in self.others[:most])

@@ -77,11 +77,29 @@ def ops_in(path):
         return ops_of(read_logs(log.read()))
 
 
+@dataclass(frozen=True, slots=True)
+class Mode:
+    """How makes are done: with an alignment, or with bytes of 0."""
+    align: int = None
+    is_zero: bool = False
+
+    def words(self):
+        """What a report calls such a make."""
+        return 'malloc' if self == Mode() else 'calloc' if self.is_zero else f'aligned 0x{self.align:x}'
+
+    def is_bad(self):
+        """The alignment is neither 0 nor a power of two."""
+        return self.align is not None and self.align & -self.align != self.align
+
+    def units(self):
+        return 16 if self.align is None else self.align
+
+
 class Follower:
     """One pass over the ops of a plan, with the report's lines beside."""
 
-    def __init__(self, heap, ops, report):
-        self.heap, self.ops = heap, ops
+    def __init__(self, heap, ops, report, mode=Mode()):
+        self.heap, self.ops, self.mode = heap, ops, mode
         self.lines, self.counts = {}, {}
         for line in report:
             first, _, rest = line.partition(' ')
@@ -91,7 +109,6 @@ class Follower:
                 self.counts[first] = rest
         self.standing = []
         self.calls = 0
-        self.resizes = None
 
     def expect(self, log, words):
         """The log's next line is this."""
@@ -126,31 +143,27 @@ class Follower:
         self.standing.append(None)
         return Event(self.calls, 'free', op.log, block.size, went=block)
 
-    def get(self, size):
+    def get(self, size, align=16):
         """A new block or None, and what the report says of it."""
         try:
-            block = self.heap.malloc(size)
+            block = self.heap.malloc(size, align)
             return block, f'0x{block.address:x}'
         except Refused as refused:
             excuse = refused.args[0]
             return None, 'TooLarge' if excuse is None else f'NoMemory {excuse}'
 
     def make(self, op):
-        block, words = self.get(op.line.size)
-        self.expect(op.log, f'malloc 0x{op.line.size:x} {words}')
+        block, answer = (None, 'BadAlign') if self.mode.is_bad() else self.get(op.line.size, self.mode.units())
+        self.expect(op.log, f'{self.mode.words()} 0x{op.line.size:x} {answer}')
         self.standing.append(block)
         return Event(self.calls, 'malloc', op.log, op.line.size, came=block, is_refused=block is None)
 
     def move(self, op, block):
-        """A move is a resize in place where the report says that it is one, and else a make of the new size, then a free."""
+        """A move is a resize in place where the block may stay, and else a make of the new size, then a free."""
         size, words = op.line.size, f'realloc 0x{block.address:x} 0x{op.line.size:x}'
-        lines = self.lines.get(op.log)
         if self.heap.stays(block, size):
-            is_resized = bool(lines) and lines[0] == f'{words} 0x{block.address:x}'
-            self.resizes = is_resized if self.resizes is None else self.resizes
-            if self.resizes:
-                self.expect(op.log, f'{words} 0x{block.address:x}')
-                return self.resized(op, block)
+            self.expect(op.log, f'{words} 0x{block.address:x}')
+            return self.resized(op, block)
         came, answer = self.get(size)
         self.expect(op.log, f'{words} {answer}')
         if came is not None:

@@ -11,6 +11,7 @@ from policy import (GROUP_HEAD, HEADER, LONE, NESTED_BYTES, PAGE, THRESHOLD, UNI
 
 METAS = 101
 TOO_LARGE = 2**63 - 4097
+TOO_LARGE_ALIGN = 2**35
 FREED_MARK = 255
 OFFSET_MARK = 7 << 5
 NESTED_MARK = 6 << 5
@@ -121,7 +122,7 @@ class Slot:
 
 @dataclass(eq=False, slots=True)
 class Block:
-    """A live block: its slot, its address, and the bytes that were asked."""
+    """A live block: its slot, its address, the bytes that were asked, and the units from the slot's start to it."""
     slot: Slot
     address: int
     size: int
@@ -322,26 +323,31 @@ class Heap:
         self.mapper = Mapper(pages, refused)
         self.core = Core(self.mapper, policy or Policy())
 
-    def malloc(self, size):
-        """A block, or Refused with the number of the refusal, or with None where the size is too large."""
-        if size >= TOO_LARGE:
-            raise Refused(None)
-        klass = self.core.class_for(size)
-        slot = self.core.take_lone(size) if klass == LONE else self.core.take_slot(klass, size)
-        return self.put(slot, size)
+    def malloc(self, size, align=UNIT):
+        """A block, or Refused with the number of the refusal, or with None where the size is too large.
 
-    def put(self, slot, size):
+        The align is 0 or a power of two. The slot has room for what it may take."""
+        align = max(align, UNIT)
+        asked = size + align - UNIT
+        if align >= TOO_LARGE_ALIGN or asked >= TOO_LARGE:
+            raise Refused(None)
+        klass = self.core.class_for(asked)
+        slot = self.core.take_lone(asked) if klass == LONE else self.core.take_slot(klass, asked)
+        return self.put(slot, size, align)
+
+    def put(self, slot, size, align):
         start, group = slot.start(), slot.group
-        slack = (group.room() - HEADER - size) // UNIT
+        slack = (group.room() - HEADER - (size + align - UNIT)) // UNIT
         found = group.cells.headers.get(start, (0, 0))
         offset = cycle(found, slack, self.core.counter)
-        address = start + UNIT * offset
-        if offset:
-            group.cells.headers[start] = (OFFSET_MARK, offset)
+        address = -(-(start + UNIT * offset) // align) * align
+        distance = (address - start) // UNIT
+        if distance:
+            group.cells.headers[start] = (OFFSET_MARK, distance & 0xffff)
         else:
             self.set_header(slot, start, size)
         group.cells.used.add(start)
-        block = Block(slot, address, size, offset, found, self.core.counter)
+        block = Block(slot, address, size, distance, found, self.core.counter)
         group.blocks[slot.index] = block
         return block
 
