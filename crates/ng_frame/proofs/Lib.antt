@@ -6,3 +6,4 @@ pub mod Lengths
 pub mod Tokens
 pub mod Judged
 pub mod Verdicts
+pub mod Places
