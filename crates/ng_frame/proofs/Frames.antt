@@ -32,7 +32,7 @@ pub of_found : (hand : Caller) (slot : Token) (h : Held) (P : Held → Type 0) �
 of_found hand slot h P found p k e = let q : h ≡ k = cc in subst P q p
 
 -- the slot lies where the token says
-lies : (hand : Caller) (slot : Token) → HasSlot hand slot → OfSlot hand slot (λ h. LiesAt h.place slot)
+pub lies : (hand : Caller) (slot : Token) → HasSlot hand slot → OfSlot hand slot (λ h. LiesAt h.place slot)
 lies hand slot has = of_found hand slot has.held (λ h. LiesAt h.place slot) has.found has.place
 
 -- ---- one byte is made 0: its cell is loaded, and stored without it
@@ -60,45 +60,45 @@ module _ (old mid new : Caller) (slot : Token) (has : HasSlot old slot) (at word
       (leaves_stored mid new slot a cell still stores)
 
 -- ---- a store in the slot
-module _ (old new : Caller) (slot : Token) (has : HasSlot old slot) (a x : ℕ) (stores : new.view ≡ stored old.view slot.meta slot.index a x) where
-  stored_found : find slot.meta slot.index new.view.held ≡ Some (wrote a x has.held)
-  stored_found = ap (λ (u : View). find slot.meta slot.index u.held) stores ∙ find_edit slot.meta slot.index (wrote a x) old.view.held has.held (λ y. refl) has.found
+module _ (old new : Caller) (slot : Token) (h : Held) (found : find slot.meta slot.index old.view.held ≡ Some h) (a x : ℕ) (stores : new.view ≡ stored old.view slot.meta slot.index a x) where
+  stored_found : find slot.meta slot.index new.view.held ≡ Some (wrote a x h)
+  stored_found = ap (λ (u : View). find slot.meta slot.index u.held) stores ∙ find_edit slot.meta slot.index (wrote a x) old.view.held h (λ y. refl) found
 
   pub stored_knows : OfSlot new slot (Knows a x)
-  stored_knows = of_found new slot (wrote a x has.held) (Knows a x) stored_found (inl refl)
+  stored_knows = of_found new slot (wrote a x h) (Knows a x) stored_found (inl refl)
 
-  pub stored_byte : (y : ℕ) → 4 * (y / 4) ≢ a → OfSlot old slot (KnowsByte y 0) → OfSlot new slot (KnowsByte y 0)
-  stored_byte y ne known =
-      let k = known has.held has.found in
-      of_found new slot (wrote a x has.held) (KnowsByte y 0) stored_found (k.0, still_knows a x (4 * (y / 4)) k.0 has.held ne k.1, k.2)
+  pub stored_byte : (y b : ℕ) → 4 * (y / 4) ≢ a → OfSlot old slot (KnowsByte y b) → OfSlot new slot (KnowsByte y b)
+  stored_byte y b ne known =
+      let k = known h found in
+      of_found new slot (wrote a x h) (KnowsByte y b) stored_found (k.0, still_knows a x (4 * (y / 4)) k.0 h ne k.1, k.2)
 
   -- the mark at the slot's start
-  pub marked : (p : ℕ) → IsWhole slot → a ≡ slot.start - 4 → x ≡ 57344 + (p - slot.start) / 16 % 65536 * 65536 → OfSlot new slot (λ h. IsShift h p)
-  marked p is front value =
-      let y = wrote a x has.held in
-      let start : slot.start ≡ slot_start has.held.place = has.place.start in
+  pub marked : (p : ℕ) → LiesAt h.place slot → IsWhole slot → a ≡ slot.start - 4 → x ≡ 57344 + (p - slot.start) / 16 % 65536 * 65536 → OfSlot new slot (λ h. IsShift h p)
+  marked p place is front value =
+      let y = wrote a x h in
+      let start : slot.start ≡ slot_start h.place = place.start in
       let some_front = is.front in
       let far : ℕ = (p - slot.start) / 16 % 65536 in
       let small : far < 65536 = omega arith in
       of_found new slot y (λ h. IsShift h p) stored_found (inr (a, x, (let e : a + 4 ≡ slot.start = omega arith in e ∙ start), inl refl, omega (arith, value), omega (arith, value), (let e : x / 65536 ≡ far = omega (arith, value, small) in e ∙ ap (λ s. (p - s) / 16 % 65536) start)))
 
 -- a cell that a step keeps is known after it
-pub knows_still : (old new : Caller) (slot : Token) (P : ℕ → Type 0) (a x : ℕ) → HasSlot old slot → Stays slot.meta slot.index old.view new.view (KeepsCells P) → P a → OfSlot old slot (Knows a x) → OfSlot new slot (Knows a x)
-knows_still old new slot P a x has stays p known =
-    let k = stays has.held has.found in of_found new slot k.0 (Knows a x) k.1 (k.2.cells a x p (known has.held has.found))
+pub knows_still : (old new : Caller) (slot : Token) (h : Held) (P : ℕ → Type 0) (a x : ℕ) → find slot.meta slot.index old.view.held ≡ Some h → Stays slot.meta slot.index old.view new.view (KeepsCells P) → P a → OfSlot old slot (Knows a x) → OfSlot new slot (Knows a x)
+knows_still old new slot h P a x found stays p known =
+    let k = stays h found in of_found new slot k.0 (Knows a x) k.1 (k.2.cells a x p (known h found))
 
 -- ---- trailers
-pub short_trailer : (hand : Caller) (slot : Token) (r e : ℕ) → e ≡ slot.end → 0 < r → r < 5 → HasSlot hand slot → OfSlot hand slot (KnowsByte (e - r) 0) → OfSlot hand slot (λ h. IsTrailer h r)
-short_trailer hand slot r e is some_bytes few has zero h found =
-    let end = is ∙ (lies hand slot has h found).end in inr (inl (some_bytes, few, subst (λ t. KnowsByte (t - r) 0 h) end (zero h found)))
+pub short_trailer : (hand : Caller) (slot : Token) (r e : ℕ) → e ≡ slot.end → 0 < r → r < 5 → OfSlot hand slot (λ h. LiesAt h.place slot) → OfSlot hand slot (KnowsByte (e - r) 0) → OfSlot hand slot (λ h. IsTrailer h r)
+short_trailer hand slot r e is some_bytes few place zero h found =
+    let end = is ∙ (place h found).end in inr (inl (some_bytes, few, subst (λ t. KnowsByte (t - r) 0 h) end (zero h found)))
 
-pub long_trailer : (hand : Caller) (slot : Token) (r e : ℕ) → e ≡ slot.end → 4 < r → HasSlot hand slot → OfSlot hand slot (KnowsByte (e - r) 0) → OfSlot hand slot (Knows (e - 4) r) → OfSlot hand slot (KnowsByte (e - 5) 0) → OfSlot hand slot (λ h. IsTrailer h r)
-long_trailer hand slot r e is many has zero number fifth h found =
-    let end = is ∙ (lies hand slot has h found).end in
+pub long_trailer : (hand : Caller) (slot : Token) (r e : ℕ) → e ≡ slot.end → 4 < r → OfSlot hand slot (λ h. LiesAt h.place slot) → OfSlot hand slot (KnowsByte (e - r) 0) → OfSlot hand slot (Knows (e - 4) r) → OfSlot hand slot (KnowsByte (e - 5) 0) → OfSlot hand slot (λ h. IsTrailer h r)
+long_trailer hand slot r e is many place zero number fifth h found =
+    let end = is ∙ (place h found).end in
     inr (inr (many, subst (λ t. KnowsByte (t - r) 0 h) end (zero h found), subst (λ t. Knows (t - 4) r h) end (number h found), subst (λ t. KnowsByte (t - 5) 0 h) end (fifth h found)))
 
 -- ---- what is known of a frame stays so while other cells are stored
-shift_kept : (P : ℕ → Type 0) (h k : Held) (slot : Token) (p : ℕ) → ((a : ℕ) → a + 4 ≡ slot.start → P a) → LiesAt h.place slot → KeepsCells P h k → IsShift h p → IsShift k p
+pub shift_kept : (P : ℕ → Type 0) (h k : Held) (slot : Token) (p : ℕ) → ((a : ℕ) → a + 4 ≡ slot.start → P a) → LiesAt h.place slot → KeepsCells P h k → IsShift h p → IsShift k p
 shift_kept P h k slot p kept place keeps (inl e) = inl (e ∙ ap slot_start (sym keeps.place))
 shift_kept P h k slot p kept place keeps (inr s) =
     let start = place.start in let front = s.2 in let back : h.place ≡ k.place = sym keeps.place in

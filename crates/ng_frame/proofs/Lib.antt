@@ -7,3 +7,6 @@ pub mod Tokens
 pub mod Judged
 pub mod Verdicts
 pub mod Places
+pub mod Besides
+pub mod Tails
+pub mod Resizes

@@ -1,5 +1,5 @@
 // A block gets another length where it stands.
-ghost use Rattle.std.specs.Prelude.{◌≡◌, ◌≢◌, ℕ, ◌+◌, ◌-◌, ◌*◌, ◌/◌, ◌<◌, ◌≤◌};
+ghost use Rattle.std.specs.Prelude.{◌≡◌, ◌≢◌, ℕ, ◌+◌, ◌-◌, ◌*◌, ◌/◌, ◌%◌, ◌<◌, ◌≤◌};
 ghost use Rattle.ng_terms.specs.declared.entry.Entry.TheVariants.{Resize};
 ghost use Rattle.ng_view.specs.Frame.{IsShift, IsTrailer, KnowsByte};
 ghost use Rattle.ng_space.specs.Blocks.{HasBlock, HasFramed, OfSlot, Serves};
@@ -67,6 +67,7 @@ fn store_trailer_behind<N: Name>(
 fn clear_byte_behind<N: Name>(space: &Space<N>, hand: &mut Hand<N>, block: &Block<N>, at: u64)
     requires block { HasBlock hand.old block.now }
     requires whole { IsWhole block.now.slot }
+    requires begins { block.now.at % 16 ≡ 0 }
     requires from { block.now.at ≤ at }
     requires below { at < block.now.slot.end }
     ensures zero { OfSlot hand.new block.now.slot (KnowsByte at 0) }

@@ -5,7 +5,7 @@ use Rattle.ng_space.proofs.Leaving.{stays_stored}
 use Rattle.ng_frame.proofs.offset.store_mark.Goals as goal
 
 pub returns-then-at-start-clause-shift : goal.returns-then-at-start-clause-shift
-returns-then-at-start-clause-shift g c = marked c.args.hand.now c.store_own.new.hand c.args.slot.now c.requires.slot _ _ c.store_own.ensures.view c.args.at c.requires.whole (ap (λ s. s - 4) c.start-start.ensures) (ap (λ s. 57344 + (c.args.at - s) / 16 % 65536 * 65536) c.start-start.ensures)
+returns-then-at-start-clause-shift g c = marked c.args.hand.now c.store_own.new.hand c.args.slot.now c.requires.slot.held c.requires.slot.found _ _ c.store_own.ensures.view c.args.at c.requires.slot.place c.requires.whole (ap (λ s. s - 4) c.start-start.ensures) (ap (λ s. 57344 + (c.args.at - s) / 16 % 65536 * 65536) c.start-start.ensures)
 
 pub returns-then-at-start-clause-own : goal.returns-then-at-start-clause-own
 returns-then-at-start-clause-own g c = λ h found. (let k = stays_stored c.args.hand.now.view c.store_own.new.hand.view c.args.slot.now.meta c.args.slot.now.index _ _ c.store_own.ensures.view h found in (

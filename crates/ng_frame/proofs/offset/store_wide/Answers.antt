@@ -7,7 +7,7 @@ use Rattle.ng_frame.proofs.offset.store_wide.Goals as goal
 pub returns-then-offset-ge65536-clause-wide : goal.returns-then-offset-ge65536-clause-wide
 returns-then-offset-ge65536-clause-wide g c =
     widened c.store_own.new.hand c.args.slot.now c.start.result c.args.at c.start.ensures c.requires.narrow c.requires.from c.requires.roomy c.if-offset-ge65536.true
-    (stored_knows c.args.hand.now c.store_own.new.hand c.args.slot.now c.requires.slot _ _ c.store_own.ensures.view)
+    (stored_knows c.args.hand.now c.store_own.new.hand c.args.slot.now c.requires.slot.held c.requires.slot.found _ _ c.store_own.ensures.view)
 
 pub returns-then-offset-ge65536-clause-own : goal.returns-then-offset-ge65536-clause-own
 returns-then-offset-ge65536-clause-own g c = λ h found. (let k = stays_stored c.args.hand.now.view c.store_own.new.hand.view c.args.slot.now.meta c.args.slot.now.index _ _ c.store_own.ensures.view h found in (
