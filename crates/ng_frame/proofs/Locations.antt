@@ -1,6 +1,5 @@
 -- Where a block's slot lies, by the words of its group's meta.
-use Rattle.std.proofs.Common.{◌≡◌, ◌⊎◌, ℕ, ◌+◌, ◌-◌, ◌*◌, ◌<◌, ◌≤◌, sym, ap, ◌∙◌, subst, ⊎_elim, inl, inr, arith}
-use Rattle.std.specs.Prelude.{Some}
+use Rattle.std.proofs.Common.{◌≡◌, ◌⊎◌, ℕ, ◌+◌, ◌<◌, ◌≤◌, sym, ap, ◌∙◌, subst, ⊎_elim, inl, inr, arith}
 use Rattle.ng_class.specs.Slot.{IsGroupClass, IsLoneGroup, start_at, stride_of}
 use Rattle.ng_meta.specs.Cells.{joined}
 use Rattle.ng_meta.specs.Flags.{fields_in}
@@ -9,7 +8,6 @@ use Rattle.ng_rule.proofs.geometry.Lists.{find_among}
 use Rattle.ng_view.specs.Lists.{find}
 use Rattle.ng_view.specs.Steps.{loaded}
 use Rattle.ng_view.specs.Tells.{Tells}
-use Rattle.ng_view.specs.declared.view.Held.{Held}
 use Rattle.ng_view.specs.declared.view.Place.{Place}
 use Rattle.ng_view.specs.declared.view.Start.{Start}
 use Rattle.ng_view.specs.declared.view.View.{View}
@@ -20,7 +18,6 @@ use Rattle.ng_space.specs.Placed.{ArePlaced, IsRead, LiesIn}
 use Rattle.ng_space.proofs.Holding.{read_of}
 use Rattle.ng_space.proofs.Reading.{IsFieldsOf, fields_are, group_class, start_is, stride_is}
 use Rattle.ng_frame.specs.Located.{IsLocated}
-use Rattle.ng_frame.specs.declared.locating.Location.{Location}
 
 -- the mem and flags of the meta of a block's group were loaded
 module _ (key : Start) (hand one : Caller) (block : BlockToken) (has : HasBlock hand block) (meta index base flags : ℕ) (same_meta : meta ≡ block.slot.meta) (same_index : index ≡ block.slot.index)

@@ -1,4 +1,4 @@
-use Rattle.std.proofs.Common.{◌≡◌, ◌≢◌, ℕ, ◌-◌, ◌*◌, ◌/◌, ◌<◌, eq-eqb, sym, ap, ◌∙◌, subst, arith}
+use Rattle.std.proofs.Common.{◌≡◌, ◌≢◌, ℕ, ◌-◌, ◌*◌, ◌/◌, eq-eqb, sym, ap, ◌∙◌, subst}
 use Rattle.ng_view.specs.Steps.{loaded}
 use Rattle.ng_view.specs.Tells.{Tells}
 use Rattle.ng_space.proofs.LeavingFrames.{leaves_loaded}
@@ -10,8 +10,7 @@ use Rattle.ng_frame.proofs.locating.is_marked.Goals as goal
 
 pub returns-then-at-start-clause-exact : goal.returns-then-at-start-clause-exact
 returns-then-at-start-clause-exact g c =
-    let at = c.at-at.ensures.at in
-    (
+    let at = c.at-at.ensures.at in (
       λ true_is. mark_first c.load-header.new.hand c.args.block.now (c.load-header.ensures.blocks c.args.block.now c.requires.block) (sym at ∙ c.if-at-start.true ∙ c.requires.start),
       λ shift. eq-eqb c.at-at.result c.args.start c.if-at-start.true,
     )
@@ -30,8 +29,7 @@ returns-else-at-start-clause-exact g c =
     let told = subst (λ a. Tells key old.view a w) there c.load-header.ensures.told in
     let at = c.at-at.ensures.at in
     let far = ap (λ a. (a - c.args.start) / 16) at in
-    let ne : block.at ≢ c.args.start = (λ same. c.if-at-start.false (at ∙ same)) in
-    (
+    let ne : block.at ≢ c.args.start = (λ same. c.if-at-start.false (at ∙ same)) in (
       λ true_is. mark_told key old new block c.requires.block is c.args.start w c.requires.start loads told (subst (TellsDistance w) far (c.tells_distance.ensures.0 true_is)),
       λ shift. c.tells_distance.ensures.1 (subst (TellsDistance w) (sym far) (mark_back key old new block c.requires.block is c.args.start w c.requires.start loads told ne shift)),
     )

@@ -1,4 +1,4 @@
-use Rattle.std.proofs.Common.{◌≡◌, ℕ, ◌+◌, ◌*◌, ◌≤◌, ◌∙◌, arith}
+use Rattle.std.proofs.Common.{◌≡◌, ◌+◌, ◌*◌, ◌∙◌, arith}
 use Rattle.ng_space.specs.Leaving.{LeavesAll}
 use Rattle.ng_space.proofs.LeavingFrames.{leaves_all_then, leaves_loaded}
 use Rattle.ng_frame.proofs.Lengths.{block_whole}
