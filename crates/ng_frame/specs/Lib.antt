@@ -1,3 +1,4 @@
 pub mod Puts
 pub mod Inspects
 pub mod Judging
+pub mod Contents
