@@ -1,0 +1,4 @@
+pub mod Around
+pub mod Changes
+pub mod Bytes
+pub mod Sure
