@@ -1,5 +1,5 @@
 -- One byte of a block that is written: its cell is loaded, and stored with it.
-use Rattle.std.proofs.Common.{◌≡◌, ◌≢◌, ℕ, zero, suc, ◌+◌, ◌-◌, ◌*◌, ◌/◌, ◌%◌, ◌^◌, ◌<◌, refl, ap, ◌∙◌, arith}
+use Rattle.std.proofs.Common.{◌≡◌, ◌≢◌, ℕ, zero, suc, ◌+◌, ◌-◌, ◌*◌, ◌/◌, ◌%◌, ◌^◌, ◌<◌, ◌≤◌, refl, ap, ◌∙◌, arith}
 use Rattle.std.specs.Prelude.{Some}
 use Rattle.ng_header.specs.Bytes.{byte_of}
 use Rattle.ng_rule.proofs.geometry.Lists.{find_among, find_edit}
@@ -70,6 +70,69 @@ put_others x (suc (suc (suc zero))) b (suc (suc zero)) lk lb lj ne = omega arith
 put_others x (suc (suc (suc zero))) b (suc (suc (suc zero))) lk lb lj ne = absurd (ne refl)
 put_others x k b (suc (suc (suc (suc j)))) lk lb lj ne = absurd (omega arith)
 put_others x (suc (suc (suc (suc k)))) b j lk lb lj ne = absurd (omega arith)
+
+-- ---- the lowest bytes of a cell
+-- as the code has it
+abbrev pub low_in : ℕ → ℕ → ℕ → ℕ
+low_in x b k = x / (1 * 2 ^ (8 * k) % 18446744073709551616) * (1 * 2 ^ (8 * k) % 18446744073709551616) + b % (1 * 2 ^ (8 * k) % 18446744073709551616)
+
+pub low_small : (x b k : ℕ) → 1 ≤ k → k ≤ 4 → x < 4294967296 → low_in x b k < 4294967296
+low_small x b zero low high small = absurd (omega arith)
+low_small x b (suc zero) low high small = omega arith
+low_small x b (suc (suc zero)) low high small = omega arith
+low_small x b (suc (suc (suc zero))) low high small = omega arith
+low_small x b (suc (suc (suc (suc zero)))) low high small = omega arith
+low_small x b (suc (suc (suc (suc (suc k))))) low high small = absurd (omega arith)
+
+pub low_times : (x k : ℕ) → 1 ≤ k → k ≤ 4 → x < 4294967296 → x / (1 * 2 ^ (8 * k) % 18446744073709551616) * (1 * 2 ^ (8 * k) % 18446744073709551616) < 4294967296
+low_times x zero low high small = absurd (omega arith)
+low_times x (suc zero) low high small = omega arith
+low_times x (suc (suc zero)) low high small = omega arith
+low_times x (suc (suc (suc zero))) low high small = omega arith
+low_times x (suc (suc (suc (suc zero)))) low high small = omega arith
+low_times x (suc (suc (suc (suc (suc k))))) low high small = absurd (omega arith)
+
+pub low_below : (x b k j : ℕ) → 1 ≤ k → k ≤ 4 → j < k → byte_of (low_in x b k) j ≡ byte_of b j
+low_below x b zero j low high lt = absurd (omega arith)
+low_below x b (suc zero) zero low high lt = omega arith
+low_below x b (suc zero) (suc j) low high lt = absurd (omega arith)
+low_below x b (suc (suc zero)) zero low high lt = omega arith
+low_below x b (suc (suc zero)) (suc zero) low high lt = omega arith
+low_below x b (suc (suc zero)) (suc (suc j)) low high lt = absurd (omega arith)
+low_below x b (suc (suc (suc zero))) zero low high lt = omega arith
+low_below x b (suc (suc (suc zero))) (suc zero) low high lt = omega arith
+low_below x b (suc (suc (suc zero))) (suc (suc zero)) low high lt = omega arith
+low_below x b (suc (suc (suc zero))) (suc (suc (suc j))) low high lt = absurd (omega arith)
+low_below x b (suc (suc (suc (suc zero)))) zero low high lt = omega arith
+low_below x b (suc (suc (suc (suc zero)))) (suc zero) low high lt = omega arith
+low_below x b (suc (suc (suc (suc zero)))) (suc (suc zero)) low high lt = omega arith
+low_below x b (suc (suc (suc (suc zero)))) (suc (suc (suc zero))) low high lt = omega arith
+low_below x b (suc (suc (suc (suc zero)))) (suc (suc (suc (suc j)))) low high lt = absurd (omega arith)
+low_below x b (suc (suc (suc (suc (suc k))))) j low high lt = absurd (omega arith)
+
+pub low_above : (x b k j : ℕ) → 1 ≤ k → k ≤ 4 → k ≤ j → j < 4 → byte_of (low_in x b k) j ≡ byte_of x j
+low_above x b zero j low high le lt = absurd (omega arith)
+low_above x b (suc zero) zero low high le lt = absurd (omega arith)
+low_above x b (suc zero) (suc zero) low high le lt = omega arith
+low_above x b (suc zero) (suc (suc zero)) low high le lt = omega arith
+low_above x b (suc zero) (suc (suc (suc zero))) low high le lt = omega arith
+low_above x b (suc zero) (suc (suc (suc (suc j)))) low high le lt = absurd (omega arith)
+low_above x b (suc (suc zero)) zero low high le lt = absurd (omega arith)
+low_above x b (suc (suc zero)) (suc zero) low high le lt = absurd (omega arith)
+low_above x b (suc (suc zero)) (suc (suc zero)) low high le lt = omega arith
+low_above x b (suc (suc zero)) (suc (suc (suc zero))) low high le lt = omega arith
+low_above x b (suc (suc zero)) (suc (suc (suc (suc j)))) low high le lt = absurd (omega arith)
+low_above x b (suc (suc (suc zero))) zero low high le lt = absurd (omega arith)
+low_above x b (suc (suc (suc zero))) (suc zero) low high le lt = absurd (omega arith)
+low_above x b (suc (suc (suc zero))) (suc (suc zero)) low high le lt = absurd (omega arith)
+low_above x b (suc (suc (suc zero))) (suc (suc (suc zero))) low high le lt = omega arith
+low_above x b (suc (suc (suc zero))) (suc (suc (suc (suc j)))) low high le lt = absurd (omega arith)
+low_above x b (suc (suc (suc (suc zero)))) zero low high le lt = absurd (omega arith)
+low_above x b (suc (suc (suc (suc zero)))) (suc zero) low high le lt = absurd (omega arith)
+low_above x b (suc (suc (suc (suc zero)))) (suc (suc zero)) low high le lt = absurd (omega arith)
+low_above x b (suc (suc (suc (suc zero)))) (suc (suc (suc zero))) low high le lt = absurd (omega arith)
+low_above x b (suc (suc (suc (suc zero)))) (suc (suc (suc (suc j)))) low high le lt = absurd (omega arith)
+low_above x b (suc (suc (suc (suc (suc k))))) j low high le lt = absurd (omega arith)
 
 -- ---- the block's slot
 module _ (old mid new : Caller) (block : BlockToken) (has : HasBlock old block) (at word value : ℕ)
