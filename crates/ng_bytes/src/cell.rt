@@ -26,6 +26,7 @@ pub(crate) fn load_cell<N: Name>(
     ensures leaves { LeavesAll hand.old.view hand.new.view }
     ensures book { KeepsBook hand.old hand.new }
 {
+    let _at = block.at();
     let _gap = block.gap();
     space.load(hand, addr)
 }
@@ -50,6 +51,7 @@ pub(crate) fn store_low<N: Name>(
     ensures changes { Changes addr (addr + count) block.now hand.old hand.new }
     ensures others { OthersStaySure block.now.slot hand.old.view hand.new.view }
 {
+    let _at = block.at();
     let _gap = block.gap();
     let cell = (space.load(hand, addr) % (1 << 32)) as u32;
     let value = with_low(cell, bytes, count);
