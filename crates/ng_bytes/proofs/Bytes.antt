@@ -1,5 +1,8 @@
 -- One byte of a block that is written: its cell is loaded, and stored with it.
-use Rattle.std.proofs.Common.{◌≡◌, ◌≢◌, ℕ, zero, suc, ◌+◌, ◌-◌, ◌*◌, ◌/◌, ◌%◌, ◌^◌, ◌<◌, ◌≤◌, refl, ap, ◌∙◌, arith}
+use Rattle.std.proofs.Common.{◌≡◌, ◌≢◌, ◌⊎◌, ℕ, zero, suc, ◌+◌, ◌-◌, ◌*◌, ◌/◌, ◌%◌, ◌^◌, ◌<◌, ◌≤◌, refl, ap, ◌∙◌, subst, ⊎_elim, inl, inr, arith}
+use Rattle.std.proofs.lemmas.Bool.{cases_lt}
+use Rattle.ng_frame.specs.Contents.{KeepsAround}
+use Rattle.ng_rule.proofs.hand.Load.{still_knows}
 use Rattle.std.specs.Prelude.{Some}
 use Rattle.ng_header.specs.Bytes.{byte_of}
 use Rattle.ng_rule.proofs.geometry.Lists.{find_among, find_edit}
@@ -13,7 +16,7 @@ use Rattle.ng_space.specs.Blocks.{BlockToken, HasBlock, OfSlot}
 use Rattle.ng_space.specs.Callers.{Caller}
 use Rattle.ng_space.specs.Leaving.{KeepsOthers, KeepsRest}
 use Rattle.ng_space.proofs.Holding.{find-loaded}
-use Rattle.ng_space.proofs.Leaving.{loaded_others, loaded_rest, others_then, rest_then, stored_others, stored_rest}
+use Rattle.ng_space.proofs.Leaving.{learns_cell, loaded_others, loaded_rest, others_then, rest_then, stored_others, stored_rest}
 use Rattle.ng_frame.proofs.Bytes.{byte_kept, byte_made}
 use Rattle.ng_frame.proofs.Frames.{of_found}
 use Rattle.ng_bytes.specs.Scribbles.{with_byte}
@@ -134,6 +137,21 @@ low_above x b (suc (suc (suc (suc zero)))) (suc (suc (suc zero))) low high le lt
 low_above x b (suc (suc (suc (suc zero)))) (suc (suc (suc (suc j)))) low high le lt = absurd (omega arith)
 low_above x b (suc (suc (suc (suc (suc k))))) j low high le lt = absurd (omega arith)
 
+-- no byte of 0 is another
+pub zero_byte : (j : ℕ) → j < 4 → byte_of 0 j ≡ 0
+zero_byte zero lt = refl
+zero_byte (suc zero) lt = refl
+zero_byte (suc (suc zero)) lt = refl
+zero_byte (suc (suc (suc zero))) lt = refl
+zero_byte (suc (suc (suc (suc j)))) lt = absurd (omega arith)
+
+-- what holds below n, and of so many from there on
+pub below_part : (P : ℕ → Type 0) (n k : ℕ) → ((i : ℕ) → i < n → P i) → ((j : ℕ) → j < k → P (n + j)) → (i : ℕ) → i < n + k → P i
+below_part P n k low high i lt = ⊎_elim
+    (λ (below : i < n). low i below)
+    (λ (above : n ≤ i). let here : n + (i - n) ≡ i = omega (arith, above) in subst P here (high (i - n) (omega (arith, above, lt))))
+    (cases_lt i n)
+
 -- ---- the block's slot
 module _ (old mid new : Caller) (block : BlockToken) (has : HasBlock old block) (at word value : ℕ)
     (loads : mid.view ≡ loaded old.view (4 * (at / 4)) word)
@@ -147,6 +165,24 @@ module _ (old mid new : Caller) (block : BlockToken) (has : HasBlock old block) 
       ∙ find_edit block.slot.meta block.slot.index (wrote a value) mid.view.held (learnt a word has.held) (λ y. refl)
       (ap (λ (u : View). find block.slot.meta block.slot.index u.held) loads
       ∙ find-loaded old.view a word block.slot.meta block.slot.index has.held has.found)
+
+  -- what is known around the byte, where each other one is kept
+  pub scribbled_around : ((y b : ℕ) → y ≢ at → OfSlot old block.slot (KnowsByte y b) → OfSlot new block.slot (KnowsByte y b))
+      → KeepsAround at (at + 1) has.held (wrote a value (learnt a word has.held))
+  scribbled_around kept = record {
+    place = refl;
+    block = refl;
+    cells = λ b x out k. still_knows a value b x (learnt a word has.held) (cell_apart b out) ((learns_cell a word has.held).cells b x tt k);
+    bytes = λ y b out k. kept y b (byte_apart y out) (of_found old block.slot has.held (KnowsByte y b) has.found k) (wrote a value (learnt a word has.held)) found;
+  }
+    where
+      cell_apart : (b : ℕ) → (b + 4 ≤ at) ⊎ (at + 1 ≤ b) → b ≢ a
+      cell_apart b (inl before) e = absurd (omega (arith, before, e))
+      cell_apart b (inr after) e = absurd (omega (arith, after, e))
+
+      byte_apart : (y : ℕ) → (y < at) ⊎ (at + 1 ≤ y) → y ≢ at
+      byte_apart y (inl before) e = absurd (omega (arith, before, e))
+      byte_apart y (inr after) e = absurd (omega (arith, after, e))
 
   pub scribbled : (b : ℕ) → byte_of value (at % 4) ≡ b → OfSlot new block.slot (KnowsByte at b)
   scribbled b here = of_found new block.slot (wrote a value (learnt a word has.held)) (KnowsByte at b) found (byte_made (learnt a word has.held) at value b here)

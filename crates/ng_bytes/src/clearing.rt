@@ -19,7 +19,7 @@ pub fn clear<N: Name>(space: &Space<N>, hand: &mut Hand<N>, block: &Block<N>, co
     ensures leaves { Leaves block.now.slot hand.old.view hand.new.view }
     ensures book { KeepsBook hand.old hand.new }
 {
-    let _len = block.len();
+    let _gap = block.gap();
     let at = block.at();
     let mut done = 0;
     while done < count {

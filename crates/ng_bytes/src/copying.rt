@@ -34,7 +34,7 @@ pub fn copy<N: Name>(
     ensures book { KeepsBook hand.old hand.new }
 {
     let _gap = from.gap();
-    let _len = to.len();
+    let _room = to.gap();
     let first = from.at();
     let at = to.at();
     let mut done = 0;

@@ -14,7 +14,7 @@ use Rattle.ng_bytes.proofs.cell.store_low.Given.{Over}
 use Rattle.ng_bytes.proofs.cell.store_low.Goals as goal
 
 -- the bytes of the cell that are not stored are those that were loaded
-high_bytes : (g : Over) (c : goal.After-with_low-value g) (j : ℕ) → j < 4 → (c.args.addr + j < c.args.addr) ⊎ (c.args.addr + c.args.count ≤ c.args.addr + j)
+high_bytes : (g : Over) (c : goal.After-store_in g) (j : ℕ) → j < 4 → (c.args.addr + j < c.args.addr) ⊎ (c.args.addr + c.args.count ≤ c.args.addr + j)
     → byte_of c.with_low-value.result j ≡ byte_of c.load.result j
 high_bytes g c j lt out = ⊎_elim
     (λ (before : c.args.addr + j < c.args.addr). absurd (omega (arith, before)))
@@ -23,7 +23,7 @@ high_bytes g c j lt out = ⊎_elim
     out
 
 -- so what is known around them is known still
-keeps : (g : Over) (c : goal.After-with_low-value g) → KeepsAround c.args.addr (c.args.addr + c.args.count) c.requires.block.held
+keeps : (g : Over) (c : goal.After-store_in g) → KeepsAround c.args.addr (c.args.addr + c.args.count) c.requires.block.held
     (wrote c.args.addr c.with_low-value.result (learnt c.args.addr c.load.result c.requires.block.held))
 keeps g c =
     let block = c.args.block.now in
