@@ -1,5 +1,5 @@
 -- What a hand has of a block once some of its bytes have changed.
-use Rattle.std.proofs.Common.{◌≡◌, ◌≢◌, ◌⊎◌, ℕ, ◌+◌, ◌-◌, ◌*◌, ◌/◌, ◌%◌, ◌^◌, ◌<◌, ◌≤◌, List, refl, sym, ap, ◌∙◌, subst, ⊎_elim, inl, inr, arith}
+use Rattle.std.proofs.Common.{◌≡◌, ◌⊎◌, ℕ, ◌+◌, ◌*◌, ◌/◌, ◌%◌, ◌<◌, ◌≤◌, refl, sym, ap, ◌∙◌, subst, ⊎_elim, inl}
 use Rattle.std.specs.Prelude.{Option, Some}
 use Rattle.ng_terms.specs.Heap.{extent}
 use Rattle.ng_terms.specs.declared.entry.Extent.{Extent}
@@ -15,7 +15,7 @@ use Rattle.ng_space.proofs.Holding.{find-loaded}
 use Rattle.ng_space.proofs.Leaving.{loaded_others, loaded_rest, others_then, rest_then, stored_others, stored_rest}
 use Rattle.ng_space.proofs.LeavingFrames.{all_leaves, leaves_itself, leaves_then, loaded_each}
 use Rattle.ng_view.specs.Frame.{IsFramed, KnowsByte}
-use Rattle.ng_view.specs.Lists.{Among, edit, find}
+use Rattle.ng_view.specs.Lists.{Among, find}
 use Rattle.ng_view.specs.Steps.{learnt, loaded, stored, wrote}
 use Rattle.ng_view.specs.declared.view.Held.{Held}
 use Rattle.ng_view.specs.declared.view.View.{View}

@@ -1,15 +1,14 @@
 -- The bytes that a hand is sure of.
-use Rattle.std.proofs.Common.{◌≡◌, ℕ, ◌+◌, ◌*◌, ◌/◌, ◌%◌, ◌<◌, ◌≤◌, refl, sym, ap, ◌∙◌, subst, arith}
-use Rattle.std.specs.Prelude.{Some}
+use Rattle.std.proofs.Common.{◌≡◌, ℕ, ◌+◌, ◌*◌, ◌/◌, ◌%◌, ◌<◌, ◌≤◌, refl, sym, ap, ◌∙◌, subst}
 use Rattle.ng_frame.specs.Judging.{IsSure, IsSureByte}
 use Rattle.ng_frame.specs.Puts.{IsWhole}
 use Rattle.ng_frame.proofs.Frames.{of_found}
-use Rattle.ng_frame.proofs.Judged.{owns_within, some_is, sure_keeps, sure_new}
+use Rattle.ng_frame.proofs.Judged.{owns_within, sure_keeps, sure_new}
 use Rattle.ng_frame.proofs.Verdicts.{loaded_known}
 use Rattle.ng_header.specs.Bytes.{byte_of}
 use Rattle.ng_space.specs.Blocks.{BlockToken, HasBlock, OfSlot}
 use Rattle.ng_space.specs.Callers.{Caller}
-use Rattle.ng_space.specs.Leaving.{IsOther, Stays}
+use Rattle.ng_space.specs.Leaving.{Stays}
 use Rattle.ng_space.specs.Tokens.{Token}
 use Rattle.ng_space.proofs.Holding.{find-loaded}
 use Rattle.ng_space.proofs.Leaving.{find-edit_other}

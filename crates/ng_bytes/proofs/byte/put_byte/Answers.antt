@@ -1,4 +1,4 @@
-use Rattle.std.proofs.Common.{◌≡◌, ◌≢◌, ℕ, ◌<◌, ap, sym, subst, ◌∙◌, arith}
+use Rattle.std.proofs.Common.{◌<◌, ap, sym, subst, ◌∙◌, arith}
 use Rattle.ng_header.specs.Bytes.{byte_of}
 use Rattle.ng_bytes.proofs.Bytes.{put_in, put_is, put_least, put_others, put_small, put_written}
 use Rattle.ng_bytes.proofs.byte.put_byte.Goals as goal

@@ -1,4 +1,4 @@
-use Rattle.std.proofs.Common.{◌≡◌, ℕ, ◌+◌, ◌*◌, ◌/◌, ◌%◌, ◌<◌, ◌≤◌, subst, arith}
+use Rattle.std.proofs.Common.{◌≡◌, ℕ, ◌+◌, ◌%◌, subst, arith}
 use Rattle.ng_frame.specs.Judging.{IsSureByte}
 use Rattle.ng_frame.proofs.Lengths.{block_whole}
 use Rattle.ng_header.specs.Bytes.{byte_of}

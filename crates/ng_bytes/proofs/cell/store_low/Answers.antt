@@ -1,10 +1,9 @@
-use Rattle.std.proofs.Common.{◌≡◌, ◌⊎◌, ℕ, ◌+◌, ◌*◌, ◌/◌, ◌%◌, ◌<◌, ◌≤◌, ap, sym, ◌∙◌, subst, ⊎_elim, arith}
+use Rattle.std.proofs.Common.{◌≡◌, ◌⊎◌, ℕ, ◌+◌, ◌%◌, ◌<◌, ◌≤◌, ap, sym, ◌∙◌, ⊎_elim, arith}
 use Rattle.ng_frame.specs.Contents.{KeepsAround}
 use Rattle.ng_frame.proofs.Bytes.{byte_of-low}
 use Rattle.ng_frame.proofs.Lengths.{block_whole}
 use Rattle.ng_frame.proofs.Verdicts.{loaded_known}
 use Rattle.ng_header.specs.Bytes.{byte_of}
-use Rattle.ng_space.specs.Leaving.{KeepsBook}
 use Rattle.ng_space.proofs.LeavingFrames.{leaves_loaded}
 use Rattle.ng_view.specs.Steps.{learnt, wrote}
 use Rattle.ng_bytes.proofs.Around.{part_around}
@@ -72,9 +71,11 @@ returns-else-value-cell-clause-stored g c = λ j lt h found.
     let whole = block_whole key old block c.requires.block c.load.ensures.placed in
     let sure =
     sure_loaded key old new block a x c.requires.block whole c.load.ensures.told c.load.ensures.view (omega (arith, from, at, low)) (omega (arith, within, some, gap, enough))
-    (a + j) (omega (arith, cell, lt4)) h found in
-    (sure.0, sure.1.known,
-    sure.2 ∙ ap (byte_of x) place ∙ sym (byte_of-low x j lt4) ∙ ap (λ v. byte_of v j) (sym c.if-value-cell.false) ∙ c.with_low-value.ensures.low j lt)
+    (a + j) (omega (arith, cell, lt4)) h found in (
+      sure.0,
+      sure.1.known,
+      sure.2 ∙ ap (byte_of x) place ∙ sym (byte_of-low x j lt4) ∙ ap (λ v. byte_of v j) (sym c.if-value-cell.false) ∙ c.with_low-value.ensures.low j lt,
+    )
 
 pub returns-else-value-cell-clause-changes : goal.returns-else-value-cell-clause-changes
 returns-else-value-cell-clause-changes g c =

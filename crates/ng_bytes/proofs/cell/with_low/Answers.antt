@@ -1,4 +1,4 @@
-use Rattle.std.proofs.Common.{◌≡◌, ℕ, ◌<◌, ap, sym, subst, ◌∙◌, arith}
+use Rattle.std.proofs.Common.{◌≡◌, ap, ◌∙◌, arith}
 use Rattle.ng_header.specs.Bytes.{byte_of}
 use Rattle.ng_bytes.proofs.Bytes.{low_above, low_below, low_in, low_small}
 use Rattle.ng_bytes.proofs.cell.with_low.Goals as goal

@@ -1,5 +1,4 @@
-use Rattle.std.proofs.Common.{◌≡◌, ℕ, ◌+◌, ◌%◌, ◌<◌, ◌≤◌, arith, subst, inl, sym}
-use Rattle.std.specs.Prelude.{min}
+use Rattle.std.proofs.Common.{◌≡◌, ℕ, ◌+◌, arith, subst, inl}
 use Rattle.ng_header.specs.Bytes.{byte_of}
 use Rattle.ng_space.specs.Blocks.{OfSlot}
 use Rattle.ng_view.specs.Frame.{KnowsByte}

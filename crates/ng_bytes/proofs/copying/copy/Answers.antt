@@ -1,5 +1,4 @@
-use Rattle.std.proofs.Common.{◌≡◌, ℕ, ◌+◌, ◌%◌, ◌<◌, ◌≤◌, arith, subst, inl}
-use Rattle.std.specs.Prelude.{min}
+use Rattle.std.proofs.Common.{◌≡◌, ℕ, ◌+◌, ◌<◌, arith, subst, inl}
 use Rattle.ng_frame.specs.Judging.{IsSureByte}
 use Rattle.ng_frame.proofs.Bytes.{byte_of-low}
 use Rattle.ng_frame.proofs.Tokens.{block_kept, framed_kept}

@@ -1,4 +1,4 @@
-use Rattle.std.proofs.Common.{◌≡◌, ℕ, ◌+◌, ◌-◌, ◌%◌, ◌<◌, ◌≤◌}
+use Rattle.std.proofs.Common.{◌≡◌, ◌+◌, ◌-◌, ◌%◌, ◌<◌, ◌≤◌}
 use Rattle.ng_space.specs.Blocks.{HasBlock}
 use Rattle.ng_bytes.specs.Steps.{Changes, HasCopied}
 use Rattle.ng_bytes.proofs.copying.copy.Given as goal

@@ -1,4 +1,4 @@
-use Rattle.std.proofs.Common.{◌≡◌, ℕ, ◌+◌, ◌<◌, get_or, length}
+use Rattle.std.proofs.Common.{ℕ, ◌+◌, ◌<◌, get_or}
 use Rattle.ng_frame.specs.Judging.{IsSureByte}
 use Rattle.ng_space.specs.Blocks.{HasBlock, OfSlot}
 use Rattle.ng_space.specs.Leaving.{KeepsBook, LeavesAll}

@@ -1,4 +1,4 @@
-use Rattle.std.proofs.Common.{◌≡◌, ℕ, ◌+◌, ◌*◌, ◌/◌, ◌%◌, ◌<◌, sym, subst, arith}
+use Rattle.std.proofs.Common.{◌≡◌, ℕ, ◌+◌, ◌*◌, ◌/◌, ◌%◌, sym, subst, arith}
 use Rattle.ng_frame.specs.Judging.{IsSureByte}
 use Rattle.ng_header.specs.Bytes.{byte_of}
 use Rattle.ng_space.specs.Blocks.{OfSlot}

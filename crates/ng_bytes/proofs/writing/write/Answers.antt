@@ -1,4 +1,4 @@
-use Rattle.std.proofs.Common.{◌≡◌, ℕ, ◌+◌, ◌*◌, ◌/◌, ◌%◌, ◌<◌, ◌≤◌, length, arith, sym, refl, subst, get_or, inl, below_more}
+use Rattle.std.proofs.Common.{◌≡◌, ℕ, ◌+◌, ◌*◌, ◌/◌, ◌%◌, arith, refl, subst, get_or, inl, below_more}
 use Rattle.ng_space.specs.Blocks.{OfSlot}
 use Rattle.ng_space.specs.Callers.{Caller}
 use Rattle.ng_view.specs.Frame.{KnowsByte}
