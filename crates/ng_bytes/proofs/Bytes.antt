@@ -87,14 +87,6 @@ low_small x b (suc (suc (suc zero))) low high small = omega arith
 low_small x b (suc (suc (suc (suc zero)))) low high small = omega arith
 low_small x b (suc (suc (suc (suc (suc k))))) low high small = absurd (omega arith)
 
-pub low_times : (x k : ℕ) → 1 ≤ k → k ≤ 4 → x < 4294967296 → x / (1 * 2 ^ (8 * k) % 18446744073709551616) * (1 * 2 ^ (8 * k) % 18446744073709551616) < 4294967296
-low_times x zero low high small = absurd (omega arith)
-low_times x (suc zero) low high small = omega arith
-low_times x (suc (suc zero)) low high small = omega arith
-low_times x (suc (suc (suc zero))) low high small = omega arith
-low_times x (suc (suc (suc (suc zero)))) low high small = omega arith
-low_times x (suc (suc (suc (suc (suc k))))) low high small = absurd (omega arith)
-
 pub low_below : (x b k j : ℕ) → 1 ≤ k → k ≤ 4 → j < k → byte_of (low_in x b k) j ≡ byte_of b j
 low_below x b zero j low high lt = absurd (omega arith)
 low_below x b (suc zero) zero low high lt = omega arith

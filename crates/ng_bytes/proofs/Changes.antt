@@ -13,7 +13,7 @@ use Rattle.ng_space.specs.Callers.{Caller}
 use Rattle.ng_space.specs.Leaving.{AreFramed, HasFrame, KeepsBook, Leaves, LeavesAll, Stays}
 use Rattle.ng_space.proofs.Holding.{find-loaded}
 use Rattle.ng_space.proofs.Leaving.{loaded_others, loaded_rest, others_then, rest_then, stored_others, stored_rest}
-use Rattle.ng_space.proofs.LeavingFrames.{all_leaves, leaves_itself, leaves_then, loaded_each}
+use Rattle.ng_space.proofs.LeavingFrames.{all_leaves, leaves_then, loaded_each}
 use Rattle.ng_view.specs.Frame.{IsFramed, KnowsByte}
 use Rattle.ng_view.specs.Lists.{Among, find}
 use Rattle.ng_view.specs.Steps.{learnt, loaded, stored, wrote}
@@ -77,9 +77,6 @@ module _ (old mid new : Caller) (block : BlockToken) (has : HasBlock old block) 
       of_found new block.slot last (KnowsByte y b) last_found (value, inl (ap (λ (a : ℕ). (a, value)) here), is)
 
 -- ---- other steps
-pub book_itself : (hand : Caller) → KeepsBook hand hand
-book_itself hand = record { number = refl; spare = refl; entries = refl }
-
 pub book_then : (one two three : Caller) → KeepsBook one two → KeepsBook two three → KeepsBook one three
 book_then one two three first second = record {
   number = second.number ∙ first.number;
@@ -96,10 +93,6 @@ learns_changes first behind block old new has leaves book = record {
   leaves = all_leaves block.slot old.view new.view leaves;
   book = book;
 }
-
-pub no_changes : (first behind : ℕ) (block : BlockToken) (hand : Caller) → HasBlock hand block → Changes first behind block hand hand
-no_changes first behind block hand has =
-    learns_changes first behind block hand hand has (leaves_itself hand.view) (book_itself hand)
 
 -- ---- one after the other
 pub wider_changes : (f b first behind : ℕ) (block : BlockToken) (old new : Caller) → first ≤ f → b ≤ behind → Changes f b block old new

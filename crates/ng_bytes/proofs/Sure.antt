@@ -12,6 +12,7 @@ use Rattle.ng_space.specs.Leaving.{Stays}
 use Rattle.ng_space.specs.Tokens.{Token}
 use Rattle.ng_space.proofs.Holding.{find-loaded}
 use Rattle.ng_space.proofs.Leaving.{find-edit_other}
+use Rattle.ng_view.specs.Frame.{KnowsByte}
 use Rattle.ng_view.specs.Lists.{find}
 use Rattle.ng_view.specs.Steps.{learnt, loaded, stored, wrote}
 use Rattle.ng_view.specs.Tells.{Tells}
@@ -38,6 +39,10 @@ stored_sure slot v w a x is m i ne h found = (
 pub sure_then : (m i : ℕ) (v u w : View) → Stays m i v u KeepsSure → Stays m i u w KeepsSure → Stays m i v w KeepsSure
 sure_then m i v u w one two h found =
     let k = one h found in let l = two k.0 k.1 in (l.0, l.1, record { bytes = λ y b s. l.2.bytes y b (k.2.bytes y b s) })
+
+-- a byte of which a hand is sure is known
+pub knows_sure : (y b : ℕ) (h : Held) → IsSureByte y b h → KnowsByte y b h
+knows_sure y b h sure = (sure.0, sure.1.known, sure.2)
 
 -- ---- blocks
 -- a byte of a block stays sure where its slot's do

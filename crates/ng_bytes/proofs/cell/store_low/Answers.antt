@@ -1,14 +1,15 @@
-use Rattle.std.proofs.Common.{◌≡◌, ◌⊎◌, ℕ, ◌+◌, ◌%◌, ◌<◌, ◌≤◌, ap, sym, ◌∙◌, ⊎_elim, arith}
+use Rattle.std.proofs.Common.{◌≡◌, ◌⊎◌, ℕ, ◌+◌, ◌%◌, ◌<◌, ◌≤◌, ap, sym, ◌∙◌, subst, ⊎_elim, arith}
 use Rattle.ng_frame.specs.Contents.{KeepsAround}
 use Rattle.ng_frame.proofs.Bytes.{byte_of-low}
 use Rattle.ng_frame.proofs.Lengths.{block_whole}
 use Rattle.ng_frame.proofs.Verdicts.{loaded_known}
 use Rattle.ng_header.specs.Bytes.{byte_of}
 use Rattle.ng_space.proofs.LeavingFrames.{leaves_loaded}
+use Rattle.ng_view.specs.Frame.{KnowsByte}
 use Rattle.ng_view.specs.Steps.{learnt, wrote}
 use Rattle.ng_bytes.proofs.Around.{part_around}
 use Rattle.ng_bytes.proofs.Changes.{learns_changes, stored_byte, stored_changes}
-use Rattle.ng_bytes.proofs.Sure.{loaded_sure, stored_sure, sure_loaded, sure_then}
+use Rattle.ng_bytes.proofs.Sure.{knows_sure, loaded_sure, stored_sure, sure_loaded, sure_then}
 use Rattle.ng_bytes.proofs.cell.store_low.Given.{Over}
 use Rattle.ng_bytes.proofs.cell.store_low.Goals as goal
 
@@ -68,14 +69,12 @@ returns-else-value-cell-clause-stored g c = λ j lt h found.
     let gap = c.gap-gap.ensures.gap in let enough = c.gap-gap.ensures.enough in
     let lt4 : j < 4 = omega (arith, lt, few) in
     let place : (a + j) % 4 ≡ j = omega (arith, cell, lt4) in
+    let already : byte_of x ((a + j) % 4) ≡ byte_of c.args.bytes j = ap (byte_of x) place ∙ sym (byte_of-low x j lt4) ∙ ap (λ v. byte_of v j) (sym c.if-value-cell.false) ∙ c.with_low-value.ensures.low j lt in
     let whole = block_whole key old block c.requires.block c.load.ensures.placed in
-    let sure =
-    sure_loaded key old new block a x c.requires.block whole c.load.ensures.told c.load.ensures.view (omega (arith, from, at, low)) (omega (arith, within, some, gap, enough))
-    (a + j) (omega (arith, cell, lt4)) h found in (
-      sure.0,
-      sure.1.known,
-      sure.2 ∙ ap (byte_of x) place ∙ sym (byte_of-low x j lt4) ∙ ap (λ v. byte_of v j) (sym c.if-value-cell.false) ∙ c.with_low-value.ensures.low j lt,
-    )
+    subst (λ b. KnowsByte (a + j) b h) already
+    (knows_sure (a + j) (byte_of x ((a + j) % 4)) h
+    (sure_loaded key old new block a x c.requires.block whole c.load.ensures.told c.load.ensures.view (omega (arith, from, at, low))
+    (omega (arith, within, some, gap, enough)) (a + j) (omega (arith, cell, lt4)) h found))
 
 pub returns-else-value-cell-clause-changes : goal.returns-else-value-cell-clause-changes
 returns-else-value-cell-clause-changes g c =
