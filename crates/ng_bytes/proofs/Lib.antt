@@ -2,3 +2,4 @@ pub mod Around
 pub mod Changes
 pub mod Bytes
 pub mod Sure
+pub mod Known
