@@ -1,10 +1,11 @@
--- What a call leaves of the cells and bytes that are known of a slot.
+-- What is still known of a slot's bytes and cells once some of them have changed.
 use Rattle.std.specs.Prelude.{◌≡◌, ◌⊎◌, ℕ, ◌+◌, ◌<◌, ◌≤◌}
 use Rattle.ng_view.specs.Blocks.{Knows}
 use Rattle.ng_view.specs.Frame.{KnowsByte}
 use Rattle.ng_view.specs.declared.view.Held.{Held}
 
--- the slot lies where it did, with its block, and what was known of its bytes and cells outside of those from one address up to another is still
+-- the slot lies where it did, with its block, and what was known of its bytes and cells outside of those from one address
+-- up to another is still
 pub record KeepsAround (first behind : ℕ) (h k : Held) : Type 0 where
   pub place : k.place ≡ h.place
   pub block : k.block ≡ h.block
