@@ -3,5 +3,6 @@ pub mod Causes
 pub mod Freeing
 pub mod Keeps
 pub mod Making
+pub mod Stub
 pub mod Trying
 pub mod Tests

@@ -1,6 +1,8 @@
 //! A heap over the space: blocks given and taken back, under the core's lock or without it.
 #![tactic(auto)]
 
+mod asking;
+mod calloc;
 mod freeing;
 mod freeing_at;
 mod heap;
@@ -9,6 +11,7 @@ mod malloc;
 mod quick;
 mod sending;
 mod shared;
+mod stub;
 
 pub use freeing::Unlocked;
 pub use freeing_at::AtRefusal;

@@ -5,8 +5,9 @@ ghost use Rattle.ng_heap.specs.Trying.{HasQuickCause, LeavesQuickly, OnGiven};
 ghost use Rattle.ng_space.specs.Leaving.{KeepsSlots};
 
 use crate::heap::Heap;
+use crate::stub::put;
 use ng_class::class_of;
-use ng_frame::{next_offset, put};
+use ng_frame::next_offset;
 use ng_history::LARGE;
 use ng_mask::{Pop, pop};
 use ng_space::{Block, Hand, Name};
@@ -35,13 +36,13 @@ impl<N: Name> Heap<N> {
     /// is left to [`Heap::malloc_in`].
     pub fn malloc_unlocked(&self, hand: &mut Hand<N>, n: u64) -> Quick<N>
         requires spare { 1 ≤ hand.old.spare }
-        ensures made { OnGiven result (λ block. IsMade n hand.old block hand.new) }
+        ensures made { OnGiven result (λ block. IsMade n 16 hand.old block hand.new) }
         ensures cause { HasQuickCause n hand.old result hand.new }
         ensures leaves { LeavesQuickly n hand.old result hand.new }
         ensures slots { KeepsSlots hand.old.view hand.new.view }
     {
         if n >= LARGE {
-            self.enter_too_large(hand, n);
+            self.enter_too_large(hand, 1, n, 16);
             return Quick::TooLarge;
         }
         let Some(class) = class_of(n) else {
@@ -56,7 +57,7 @@ impl<N: Name> Heap<N> {
             Pop::Won(slot) => {
                 let counter = self.space.counter(hand);
                 let offset = next_offset(&self.space, hand, &slot, n, u64::from(counter));
-                Quick::Given(put(&self.space, hand, slot, n, offset))
+                Quick::Given(put(&self.space, hand, slot, n, 16, offset))
             }
             Pop::Bare => Quick::Bare,
             Pop::Other { tag } => Quick::Other { tag },
