@@ -29,6 +29,8 @@ mod area_tests;
 #[cfg(test)]
 mod beside_tests;
 #[cfg(test)]
+mod content_tests;
+#[cfg(test)]
 mod lock_tests;
 #[cfg(test)]
 mod quick_tests;
