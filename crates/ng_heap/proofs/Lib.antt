@@ -9,4 +9,5 @@ pub mod ReadLemmas
 pub mod SendLemmas
 pub mod SlotLemmas
 pub mod StayLemmas
+pub mod StubLemmas
 pub mod TestLemmas

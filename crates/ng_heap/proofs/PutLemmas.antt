@@ -1,13 +1,8 @@
 -- A block is put into the slot that came.
 use Rattle.std.proofs.Common.{◌≡◌, ◌≢◌, ℕ, ◌+◌, ◌-◌, ◌*◌, ◌/◌, ◌%◌, ◌<◌, ◌≤◌, max, refl, sym, ap, ◌∙◌, subst, ⊎_elim, inl, inr, arith}
-use Rattle.std.proofs.lemmas.Bool.{cases_eq}
-use Rattle.std.specs.Int.{next_multiple_of}
 use Rattle.std.specs.Prelude.{Some}
-use Rattle.core.proofs.num.Products.{multiple, next_multiple}
-use Rattle.ng_header.specs.Cycle.{cycle_of}
 use Rattle.ng_policy.specs.declared.ask.Ask.{Ask}
 use Rattle.ng_view.specs.Classes.{IsAllowed}
-use Rattle.ng_view.specs.Frame.{IsGiven, IsPut, field_of, slack_of}
 use Rattle.ng_view.specs.Lists.{find}
 use Rattle.ng_view.specs.declared.view.Held.{Held}
 use Rattle.ng_view.specs.declared.view.Place.{Place}
@@ -15,7 +10,6 @@ use Rattle.ng_view.specs.declared.view.View.{View}
 use Rattle.ng_space.specs.Leaving.{Learns, Leaves, LeavesAll, LiesStill, Stays}
 use Rattle.ng_space.proofs.LeavingFrames.{all_leaves, leaves_then}
 use Rattle.ng_frame.specs.Puts.{Cycles, IsNear}
-use Rattle.ng_frame.proofs.Frames.{of_found}
 use Rattle.ng_frame.proofs.Tokens.{block_stays}
 use Rattle.ng_space.specs.Blocks.{BlockToken, HasBlock, HasFramed, OfSlot, Serves}
 use Rattle.ng_space.specs.Callers.{Caller}
@@ -25,7 +19,8 @@ use Rattle.ng_group.specs.States.{State}
 use Rattle.ng_heap.specs.Causes.{BuildsFor, HasClass}
 use Rattle.ng_heap.specs.Keeps.{IsFresh}
 use Rattle.ng_heap.specs.Making.{IsGivenNow, IsMade, IsPutBy}
-use Rattle.ng_heap.specs.Stub.{asked_for, place_of, put_at}
+use Rattle.ng_heap.specs.Stub.{asked_for, put_at}
+use Rattle.ng_heap.proofs.StubLemmas.{given_by_cycle}
 use Rattle.ng_heap.proofs.SlotLemmas.{gained_leaves}
 
 -- ---- the slot lies where it did
@@ -82,47 +77,15 @@ put_builds counts before core n mid after slot other same has stays builds =
     subst (BuildsFor counts before core n after) (sym same) (same_builds counts before core n mid after slot has.held has.found stays builds)
 
 -- ---- the word that was found gives the block's place
--- the least multiple of y from x on is less than y behind it
-place_multiple : (x y : ℕ) → 0 < y → (next_multiple_of x y % y ≡ 0) × (x ≤ next_multiple_of x y) × (next_multiple_of x y < x + y)
-place_multiple x y some = ⊎_elim
-    (λ (whole : x % y ≡ 0). let m = multiple x y some whole in (ap (λ k. k % y) (sym m.0) ∙ m.1.2, omega (arith, m.0), omega (arith, m.0, some)))
-    (λ (ne : x % y ≢ 0). let m = next_multiple x y some ne in (ap (λ k. k % y) (sym m.0) ∙ m.1.2, omega (arith, m.0), omega (arith, m.0, m.1.1)))
-    (cases_eq (x % y) 0)
-
-given_placed : (hand : Caller) (slot : Token) (o n align asked x counter : ℕ) → asked ≡ asked_for n align → IsNear slot asked o
-    → o ≡ cycle_of (field_of x) ((slot.room - 4 - asked) / 16) counter → HasFramed hand (put_at slot n align o)
-    → OfSlot hand slot (λ h. IsGiven h (place_of slot align o) n align x counter)
-given_placed hand slot o n align asked x counter is near cycles has =
-    of_found hand slot h (λ y. IsGiven y (place_of slot align o) n align x counter) has.has.found (record {
-      fits = (let within = near.within in let same = place.room in omega (arith, is, within, same));
-      framed = has.framed;
-      put = subst (IsPut h (place_of slot align o) align) same_offset here;
-    })
-  where
-    h : Held
-    h = has.has.held
-
-    place = has.has.place
-
-    same_offset : o ≡ cycle_of (field_of x) (slack_of h ((n + max align 16) - 16)) counter
-    same_offset =
-        cycles ∙ ap (λ r. cycle_of (field_of x) ((r - 4 - asked) / 16) counter) place.room
-        ∙ ap (λ k. cycle_of (field_of x) (slack_of h k) counter) is
-
-    here : IsPut h (place_of slot align o) align o
-    here =
-        let m = place_multiple (slot.start + 16 * o) (max align 16) (omega arith) in
-        let start = place.start in (m.0, omega (arith, m.1, start), omega (arith, m.2, start))
-
-pub put_by : (came found : View) (after : Caller) (slot : Token) (n align asked counter o : ℕ) (block : BlockToken)
-    → asked ≡ asked_for n align → block ≡ put_at slot n align o → Cycles came slot asked counter o found → IsNear slot asked o
+pub put_by : (came found : View) (after : Caller) (slot : Token) (n align counter o : ℕ) (block : BlockToken)
+    → block ≡ put_at slot n align o → Cycles came slot (asked_for n align) counter o found → IsNear slot (asked_for n align) o
     → Leaves slot found after.view → HasFramed after block → IsPutBy came block counter after
-put_by came found after slot n align asked counter o block of_n is cycles near leaves framed =
+put_by came found after slot n align counter o block is cycles near leaves framed =
     subst (λ (b : BlockToken). IsPutBy came b counter after) (sym is) (record {
       word = cycles.word;
       leaves = subst (λ (v : View). Leaves slot v after.view) cycles.view leaves;
-      given = given_placed after slot o n align asked (cycles.word % 4294967296) counter of_n near cycles.offset_is
-          (subst (HasFramed after) is framed);
+      given = given_by_cycle after slot o n align (cycles.word % 4294967296) counter near.whole
+          (let within = near.within in omega (arith, within)) cycles.offset_is (subst (HasFramed after) is framed);
     })
 
 pub given_now : (before came : View) (after : Caller) (slot : Token) (n align counter o : ℕ) (block : BlockToken)

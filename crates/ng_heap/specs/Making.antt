@@ -29,9 +29,9 @@ calloc_entry count size (Err refusal.TooLarge) = TooLarge count size 16
 
 -- the hand has a framed block of n bytes with the align, in a slot apart from those that it had, and at an address
 -- apart from those of its blocks
-pub record IsMade (n align : ℕ) (before : Caller) (block : BlockToken) (after : Caller) : Type 0 where
+pub record IsMade (n alignment : ℕ) (before : Caller) (block : BlockToken) (after : Caller) : Type 0 where
   pub len : block.len ≡ n
-  pub align : block.align ≡ align
+  pub align : block.align ≡ alignment
   pub framed : HasFramed after block
   pub fresh : IsFresh before block.slot
   pub apart : (other : BlockToken) → HasBlock before other → other.at ≢ block.at

@@ -11,79 +11,79 @@ ghost use Rattle.ng_terms.specs.declared.entry.Entry.TheVariants.{Give};
 use ng_space::{Block, Hand, Name, Slot, Space};
 
 pub fn put<N: Name>(
-    _space: &Space<N>,
-    _hand: &mut Hand<N>,
-    _slot: Slot<N>,
-    _n: u64,
-    _align: u64,
-    _offset: u64,
+    space: &Space<N>,
+    hand: &mut Hand<N>,
+    slot: Slot<N>,
+    n: u64,
+    align: u64,
+    offset: u64,
 ) -> Block<N>
     requires stub { ⊥ }
-    requires spare { 1 ≤ _hand.old.spare }
-    requires slot { HasSlot _hand.old _slot }
-    requires alignment { IsAlignment _align }
-    requires serves { OfSlot _hand.old _slot (Serves _n _align) }
-    requires near { IsNear _slot (asked_for _n _align) _offset }
-    ensures block { result ≡ put_at _slot _n _align _offset }
-    ensures framed { HasFramed _hand.new result }
-    ensures apart { (other : BlockToken) → HasBlock _hand.old other → other.at ≢ result.at }
-    ensures still { Stays _slot.meta _slot.index _hand.old.view _hand.new.view LiesStill }
-    ensures entered { Entered _hand.old _hand.new (Give _n _align result.at) }
-    ensures leaves { Leaves _slot _hand.old.view _hand.new.view }
+    requires spare { 1 ≤ hand.old.spare }
+    requires slot { HasSlot hand.old slot }
+    requires alignment { IsAlignment align }
+    requires serves { OfSlot hand.old slot (Serves n align) }
+    requires near { IsNear slot (asked_for n align) offset }
+    ensures block { result ≡ put_at slot n align offset }
+    ensures framed { HasFramed hand.new result }
+    ensures apart { (other : BlockToken) → HasBlock hand.old other → other.at ≢ result.at }
+    ensures still { Stays slot.meta slot.index hand.old.view hand.new.view LiesStill }
+    ensures entered { Entered hand.old hand.new (Give n align result.at) }
+    ensures leaves { Leaves slot hand.old.view hand.new.view }
 {
     unreachable!()
 }
 
 pub fn read<N: Name>(
-    _space: &Space<N>,
-    _hand: &mut Hand<N>,
-    _block: &Block<N>,
-    _from: u64,
-    _out: &mut [u8],
+    space: &Space<N>,
+    hand: &mut Hand<N>,
+    block: &Block<N>,
+    from: u64,
+    out: &mut [u8],
 )
     requires stub { ⊥ }
-    requires block { HasBlock _hand.old _block.now }
-    requires within { _from + length _out.old ≤ _block.now.len }
-    ensures length { length _out.new ≡ length _out.old }
-    ensures bytes { OfSlot _hand.new _block.now.slot (AreSureBytes (_block.now.at + _from) _out.new) }
-    ensures leaves { LeavesAll _hand.old.view _hand.new.view }
-    ensures book { KeepsBook _hand.old _hand.new }
+    requires block { HasBlock hand.old block.now }
+    requires within { from + length out.old ≤ block.now.len }
+    ensures length { length out.new ≡ length out.old }
+    ensures bytes { OfSlot hand.new block.now.slot (AreSureBytes (block.now.at + from) out.new) }
+    ensures leaves { LeavesAll hand.old.view hand.new.view }
+    ensures book { KeepsBook hand.old hand.new }
 {
     unreachable!()
 }
 
 pub fn write<N: Name>(
-    _space: &Space<N>,
-    _hand: &mut Hand<N>,
-    _block: &Block<N>,
-    _from: u64,
-    _bytes: &[u8],
+    space: &Space<N>,
+    hand: &mut Hand<N>,
+    block: &Block<N>,
+    from: u64,
+    bytes: &[u8],
 )
     requires stub { ⊥ }
-    requires block { HasBlock _hand.old _block.now }
-    requires within { _from + length _bytes.now ≤ _block.now.len }
-    ensures written { OfSlot _hand.new _block.now.slot (AreKnownBytes (_block.now.at + _from) _bytes.now) }
-    ensures around { Stays _block.now.slot.meta _block.now.slot.index _hand.old.view _hand.new.view
-        (KeepsAround (_block.now.at + _from) (_block.now.at + _from + length _bytes.now)) }
-    ensures has { HasBlock _hand.new _block.now }
-    ensures framed { HasFramed _hand.old _block.now → HasFramed _hand.new _block.now }
-    ensures leaves { Leaves _block.now.slot _hand.old.view _hand.new.view }
-    ensures book { KeepsBook _hand.old _hand.new }
+    requires block { HasBlock hand.old block.now }
+    requires within { from + length bytes.now ≤ block.now.len }
+    ensures written { OfSlot hand.new block.now.slot (AreKnownBytes (block.now.at + from) bytes.now) }
+    ensures around { Stays block.now.slot.meta block.now.slot.index hand.old.view hand.new.view
+        (KeepsAround (block.now.at + from) (block.now.at + from + length bytes.now)) }
+    ensures has { HasBlock hand.new block.now }
+    ensures framed { HasFramed hand.old block.now → HasFramed hand.new block.now }
+    ensures leaves { Leaves block.now.slot hand.old.view hand.new.view }
+    ensures book { KeepsBook hand.old hand.new }
 {
     unreachable!()
 }
 
-pub fn clear<N: Name>(_space: &Space<N>, _hand: &mut Hand<N>, _block: &Block<N>, _count: u64)
+pub fn clear<N: Name>(space: &Space<N>, hand: &mut Hand<N>, block: &Block<N>, count: u64)
     requires stub { ⊥ }
-    requires block { HasBlock _hand.old _block.now }
-    requires within { _count ≤ _block.now.len }
-    ensures zero { OfSlot _hand.new _block.now.slot (AreZero _block.now.at _count) }
-    ensures around { Stays _block.now.slot.meta _block.now.slot.index _hand.old.view _hand.new.view
-        (KeepsAround _block.now.at (_block.now.at + _count)) }
-    ensures has { HasBlock _hand.new _block.now }
-    ensures framed { HasFramed _hand.old _block.now → HasFramed _hand.new _block.now }
-    ensures leaves { Leaves _block.now.slot _hand.old.view _hand.new.view }
-    ensures book { KeepsBook _hand.old _hand.new }
+    requires block { HasBlock hand.old block.now }
+    requires within { count ≤ block.now.len }
+    ensures zero { OfSlot hand.new block.now.slot (AreZero block.now.at count) }
+    ensures around { Stays block.now.slot.meta block.now.slot.index hand.old.view hand.new.view
+        (KeepsAround block.now.at (block.now.at + count)) }
+    ensures has { HasBlock hand.new block.now }
+    ensures framed { HasFramed hand.old block.now → HasFramed hand.new block.now }
+    ensures leaves { Leaves block.now.slot hand.old.view hand.new.view }
+    ensures book { KeepsBook hand.old hand.new }
 {
     unreachable!()
 }

@@ -46,12 +46,12 @@ returns-in-Ok-clause-builds g c =
     subst (λ n. BuildsFor counts c.args.core.now c.malloc_in.new.core n c.clear.new.hand c.in-Ok.block.slot)
     (asked_product c.args.count c.args.size c.in-Some.bytes c.in-Some.ensures.asked)
     (same_builds counts c.args.core.now c.malloc_in.new.core c.in-Some.bytes c.malloc_in.new.hand c.clear.new.hand c.in-Ok.block.slot has.held has.found
-    (lies g c.before) c.in-Ok.ensures.builds)
+    (lies g c) c.in-Ok.ensures.builds)
 
 pub returns-in-Ok-clause-given : goal.returns-in-Ok-clause-given
 returns-in-Ok-clause-given g c =
     let made = c.in-Ok.ensures.made in
-    given_cleared c.malloc_in.new.hand c.clear.new.hand c.in-Ok.block made.framed.has (c.clear.ensures.framed made.framed) (lies g c.before)
+    given_cleared c.malloc_in.new.hand c.clear.new.hand c.in-Ok.block made.framed.has (c.clear.ensures.framed made.framed) (lies g c)
     c.args.hand.now.view c.malloc_in.new.core.counter c.clear.ensures.leaves c.in-Ok.ensures.given
 
 pub returns-in-Ok-clause-entered : goal.returns-in-Ok-clause-entered
@@ -61,10 +61,10 @@ returns-in-Ok-clause-entered g c =
     (entered_then c.args.hand.now c.malloc_in.new.hand c.clear.new.hand _ c.in-Ok.ensures.entered c.clear.ensures.book)
 
 pub returns-in-Ok-clause-leaves : goal.returns-in-Ok-clause-leaves
-returns-in-Ok-clause-leaves g c = leaves g c.before
+returns-in-Ok-clause-leaves g c = leaves g c
 
 pub returns-in-Ok-clause-slots : goal.returns-in-Ok-clause-slots
-returns-in-Ok-clause-slots g c = fresh_slots c.args.hand.now c.in-Ok.block.slot c.in-Ok.ensures.made.fresh c.clear.new.hand.view (leaves g c.before).others
+returns-in-Ok-clause-slots g c = fresh_slots c.args.hand.now c.in-Ok.block.slot c.in-Ok.ensures.made.fresh c.clear.new.hand.view (leaves g c).others
 
 -- ---- no memory
 pub returns-in-Err-clause-cause : goal.returns-in-Err-clause-cause
@@ -83,3 +83,6 @@ returns-in-Err-clause-entered g c =
     (product_entry c.args.count c.args.size c.in-Some.bytes c.args.hand.now c.in-Err.why c.malloc_in.new.hand.view
     (asked_product c.args.count c.args.size c.in-Some.bytes c.in-Some.ensures.asked) c.in-Some.ensures.small c.in-Err.ensures.refuses)
     c.in-Err.ensures.entered
+
+pub clear-requires-clause-stub : goal.clear-requires-clause-stub
+clear-requires-clause-stub g c = ?

@@ -1,7 +1,7 @@
 use Rattle.std.proofs.Common.{◌≡◌, ◌≢◌, ◌⊎◌, ℕ, ◌+◌, ◌*◌, ◌<◌, ◌≤◌, ◌∙◌, refl, sym, ap, subst, ⊎_elim, inl, inr, arith}
 use Rattle.ng_mask.specs.declared.outcome.Pop.TheVariants as pop
 use Rattle.ng_terms.specs.declared.entry.Entry.TheVariants.{Give}
-use Rattle.ng_frame.specs.Puts.{Cycles}
+use Rattle.ng_frame.specs.Puts.{Cycles, IsNear}
 use Rattle.ng_space.specs.Blocks.{BlockToken}
 use Rattle.ng_space.specs.Callers.{Caller}
 use Rattle.ng_space.specs.Leaving.{Leaves}
@@ -139,6 +139,9 @@ put-requires-clause-serves g c =
     (still_serves c.counter-counter.new.hand offset.new.hand c.in-Won.slot c.args.n (has_came _ _ _ _ _ _ _ _ _ (wins g c.before.before.before.before.before))
     offset.ensures.leaves (serves_came _ _ _ _ _ _ _ _ _ (wins g c.before.before.before.before.before)))
 
+pub put-requires-clause-near : goal.put-requires-clause-near
+put-requires-clause-near g c = subst (λ k. IsNear c.in-Won.slot k c.next_offset-offset.result) (sym (asked_common c.args.n)) c.next_offset-offset.ensures.near
+
 pub returns-in-Won-clause-cause : goal.returns-in-Won-clause-cause
 returns-in-Won-clause-cause g c =
     let came : View = c.counter-counter.new.hand.view in
@@ -147,8 +150,10 @@ returns-in-Won-clause-cause g c =
     let offset = c.next_offset-offset in
     let put = c.put.ensures in
     let cycles = subst (λ k. Cycles came slot c.args.n k offset.result offset.new.hand.view) c.from.ensures offset.ensures.cycles in
-    let puts = put_by came offset.new.hand.view c.put.new.hand slot c.args.n 16 c.args.n counter offset.result c.put.result
-    (sym (asked_common c.args.n)) put.block cycles offset.ensures.near put.leaves put.framed in
+    let asked = sym (asked_common c.args.n) in
+    let puts = put_by came offset.new.hand.view c.put.new.hand slot c.args.n 16 counter offset.result c.put.result put.block
+    (subst (λ k. Cycles came slot k counter offset.result offset.new.hand.view) asked cycles)
+    (subst (λ k. IsNear slot k offset.result) asked offset.ensures.near) put.leaves put.framed in
     gives_active _ _ _ _ _ _ _ _ _ (wins g c.before.before.before.before.before.before) offset.new.hand c.put.new.hand offset.result c.put.result
     put.block offset.ensures.leaves put.still puts
 
@@ -177,3 +182,6 @@ returns-in-Won-clause-leaves g c =
 pub returns-in-Won-clause-slots : goal.returns-in-Won-clause-slots
 returns-in-Won-clause-slots g c =
     fresh_slots c.args.hand.now c.in-Won.slot (is_fresh _ _ _ _ _ _ _ _ _ (wins g c.before.before.before.before.before.before)) c.put.new.hand.view (leaves g c).others
+
+pub put-requires-clause-stub : goal.put-requires-clause-stub
+put-requires-clause-stub g c = ?

@@ -1,5 +1,5 @@
 use Rattle.std.proofs.Common.{sym, ap, subst}
-use Rattle.ng_frame.specs.Puts.{Cycles}
+use Rattle.ng_frame.specs.Puts.{Cycles, IsNear}
 use Rattle.ng_space.specs.Blocks.{BlockToken}
 use Rattle.ng_space.specs.Callers.{Caller}
 use Rattle.ng_space.specs.Leaving.{Leaves, LeavesAll}
@@ -39,16 +39,24 @@ returns-in-Ok-clause-builds g c =
     (put_builds (g.P.Rules.count_gives c.args.core.now.rules) c.args.core.now c.slot_for.new.core c.in-Some.asked c.slot_for.new.hand c.put.new.hand
     slot c.put.result.slot (ap (λ (b : BlockToken). b.slot) c.put.ensures.block) c.in-Ok.ensures.has still c.in-Ok.ensures.builds)
 
+pub put-requires-clause-near : goal.put-requires-clause-near
+put-requires-clause-near g c =
+    subst (λ k. IsNear c.in-Ok.slot k c.next_offset-offset.result) (asked_once c.args.n c.args.align c.in-Some.asked c.in-Some.ensures.asked)
+    c.next_offset-offset.ensures.near
+
 pub returns-in-Ok-clause-given : goal.returns-in-Ok-clause-given
 returns-in-Ok-clause-given g c =
+    let slot : Token = c.in-Ok.slot in
     let came : View = c.slot_for.new.hand.view in
     let offset = c.next_offset-offset in
-    let cycles = subst (λ k. Cycles came c.in-Ok.slot c.in-Some.asked k offset.result offset.new.hand.view) c.counter.ensures offset.ensures.cycles in
     let put = c.put.ensures in
-    given_now c.args.hand.now.view came c.put.new.hand c.in-Ok.slot c.args.n c.args.align c.slot_for.new.core.counter offset.result c.put.result
-    put.block c.in-Ok.ensures.gains
-    (put_by came offset.new.hand.view c.put.new.hand c.in-Ok.slot c.args.n c.args.align c.in-Some.asked c.slot_for.new.core.counter offset.result
-    c.put.result (asked_once c.args.n c.args.align c.in-Some.asked c.in-Some.ensures.asked) put.block cycles offset.ensures.near put.leaves put.framed)
+    let asked = asked_once c.args.n c.args.align c.in-Some.asked c.in-Some.ensures.asked in
+    let counter = c.slot_for.new.core.counter in
+    let cycles = subst (λ k. Cycles came slot c.in-Some.asked k offset.result offset.new.hand.view) c.counter.ensures offset.ensures.cycles in
+    given_now c.args.hand.now.view came c.put.new.hand slot c.args.n c.args.align counter offset.result c.put.result put.block c.in-Ok.ensures.gains
+    (put_by came offset.new.hand.view c.put.new.hand slot c.args.n c.args.align counter offset.result c.put.result put.block
+    (subst (λ k. Cycles came slot k counter offset.result offset.new.hand.view) asked cycles)
+    (subst (λ k. IsNear slot k offset.result) asked offset.ensures.near) put.leaves put.framed)
 
 -- the slot had no block, and each other block stays until the put
 pub returns-in-Ok-clause-made : goal.returns-in-Ok-clause-made
@@ -97,3 +105,6 @@ returns-in-Err-clause-refuses g c =
     subst (λ k. EntersNoMemory c.slot_for.new.hand.view k c.args.n excuse new) c.in-Err.ensures.book.number c.refuse.ensures.view in
     subst (λ why. RefusesNow c.args.n c.args.align old why new) (sym c.refuse.ensures.why)
     (record { came = c.slot_for.new.hand.view; gains = c.in-Err.ensures.excused; enters = enters })
+
+pub put-requires-clause-stub : goal.put-requires-clause-stub
+put-requires-clause-stub g c = ?

@@ -50,10 +50,10 @@ returns-in-Ok-clause-entered g c =
     (entered_then c.args.hand.now c.malloc.new.hand c.clear.new.hand _ c.in-Ok.ensures.entered c.clear.ensures.book)
 
 pub returns-in-Ok-clause-leaves : goal.returns-in-Ok-clause-leaves
-returns-in-Ok-clause-leaves g c = leaves g c.before
+returns-in-Ok-clause-leaves g c = leaves g c
 
 pub returns-in-Ok-clause-slots : goal.returns-in-Ok-clause-slots
-returns-in-Ok-clause-slots g c = fresh_slots c.args.hand.now c.in-Ok.block.slot c.in-Ok.ensures.made.fresh c.clear.new.hand.view (leaves g c.before).others
+returns-in-Ok-clause-slots g c = fresh_slots c.args.hand.now c.in-Ok.block.slot c.in-Ok.ensures.made.fresh c.clear.new.hand.view (leaves g c).others
 
 -- ---- no memory
 pub returns-in-Err-clause-refuses : goal.returns-in-Err-clause-refuses
@@ -67,3 +67,6 @@ returns-in-Err-clause-entered g c =
     (product_entry c.args.count c.args.size c.in-Some.bytes c.args.hand.now c.in-Err.why c.malloc.new.hand.view
     (asked_product c.args.count c.args.size c.in-Some.bytes c.in-Some.ensures.asked) c.in-Some.ensures.small c.in-Err.ensures.refuses)
     c.in-Err.ensures.entered
+
+pub clear-requires-clause-stub : goal.clear-requires-clause-stub
+clear-requires-clause-stub g c = ?
