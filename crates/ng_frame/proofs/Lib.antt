@@ -6,3 +6,7 @@ pub mod Lengths
 pub mod Tokens
 pub mod Judged
 pub mod Verdicts
+pub mod Places
+pub mod Besides
+pub mod Tails
+pub mod Resizes
