@@ -18,7 +18,8 @@ use Rattle.ng_space.specs.Leaving.{Entered, KeepsBook, Leaves, LiesStill, Stays}
 use Rattle.ng_space.proofs.LeavingFrames.{leaves_then}
 use Rattle.ng_frame.proofs.Frames.{of_found}
 use Rattle.ng_heap.specs.Making.{IsGivenNow, IsMade, RefusesNow, RefusesProduct, calloc_entry, request_entry}
-use Rattle.ng_heap.specs.Stub.{KeepsAround, asked_for}
+use Rattle.ng_frame.specs.Contents.{KeepsAround}
+use Rattle.ng_frame.specs.Puts.{asked_for}
 
 pub around_lies : (m i first behind : ℕ) (v w : View) → Stays m i v w (KeepsAround first behind) → Stays m i v w LiesStill
 around_lies m i first behind v w stays h found = let k = stays h found in (k.0, k.1, k.2.place)

@@ -1,6 +1,5 @@
 pub mod AtLemmas
 pub mod AtTestLemmas
-pub mod ByteLemmas
 pub mod ClearLemmas
 pub mod FreeLemmas
 pub mod PutLemmas
@@ -9,5 +8,4 @@ pub mod ReadLemmas
 pub mod SendLemmas
 pub mod SlotLemmas
 pub mod StayLemmas
-pub mod StubLemmas
 pub mod TestLemmas

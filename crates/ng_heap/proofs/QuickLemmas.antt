@@ -24,7 +24,7 @@ use Rattle.ng_group.proofs.HandSlotLemmas as hands
 use Rattle.ng_heap.specs.Causes.{HasClass, threshold}
 use Rattle.ng_heap.specs.Keeps.{IsFresh}
 use Rattle.ng_heap.specs.Making.{IsGivenNow, IsPutBy}
-use Rattle.ng_heap.specs.Stub.{put_at}
+use Rattle.ng_frame.specs.Puts.{put_at}
 use Rattle.ng_heap.specs.Trying.{GivesActive, LeavesQuickly, LoadsActive, OnlyReads, PopsActive}
 use Rattle.ng_heap.specs.declared.quick.Quick.{Quick}
 use Rattle.ng_heap.specs.declared.quick.Quick.TheVariants.{Given, TooLarge, Large, Idle, Bare, Other, Lost}

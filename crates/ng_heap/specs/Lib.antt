@@ -3,6 +3,5 @@ pub mod Causes
 pub mod Freeing
 pub mod Keeps
 pub mod Making
-pub mod Stub
 pub mod Trying
 pub mod Tests

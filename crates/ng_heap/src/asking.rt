@@ -1,6 +1,6 @@
 // How many bytes a request asks for.
 ghost use Rattle.std.specs.Prelude.{◌≡◌, ◌*◌, ◌<◌, ◌↔◌, IfSome, IsNone};
-ghost use Rattle.ng_heap.specs.Stub.{asked_for};
+ghost use Rattle.ng_frame.specs.Puts.{asked_for};
 ghost use Rattle.ng_terms.specs.Heap.{IsTooLarge, large};
 
 use ng_history::LARGE;

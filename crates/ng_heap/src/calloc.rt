@@ -3,7 +3,7 @@ ghost use Rattle.std.specs.Prelude.{◌≡◌, ◌*◌, ◌<◌, ◌≤◌, ◌�
 ghost use Rattle.ng_group.specs.Steps.{GoesOn};
 ghost use Rattle.ng_heap.specs.Causes.{BuildsFor, HasRefusalCause};
 ghost use Rattle.ng_heap.specs.Making.{IsGivenNow, IsMade, RefusesProduct, calloc_entry};
-ghost use Rattle.ng_heap.specs.Stub.{AreZero};
+ghost use Rattle.ng_bytes.specs.Contents.{AreZero};
 ghost use Rattle.ng_mapper.specs.Mapping.{NotesNone};
 ghost use Rattle.ng_space.specs.Blocks.{OfSlot};
 ghost use Rattle.ng_space.specs.Leaving.{Entered, KeepsSlots, Leaves, LeavesAll};
@@ -12,7 +12,7 @@ ghost use Rattle.ng_terms.specs.declared.refusal.AllocRefusal.TheVariants as ref
 
 use crate::asking::asked_bytes;
 use crate::heap::Heap;
-use crate::stub::clear;
+use ng_bytes::clear;
 use ng_group::Core;
 use ng_mapper::Mapper;
 use ng_policy::Rules;

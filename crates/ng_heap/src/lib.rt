@@ -11,7 +11,6 @@ mod malloc;
 mod quick;
 mod sending;
 mod shared;
-mod stub;
 
 pub use freeing::Unlocked;
 pub use freeing_at::AtRefusal;

@@ -7,7 +7,7 @@ ghost use Rattle.ng_group.specs.Steps.{GoesOn};
 ghost use Rattle.ng_heap.specs.Causes.{BuildsFor, HasRefusalCause};
 ghost use Rattle.ng_heap.specs.Keeps.{IsFresh};
 ghost use Rattle.ng_heap.specs.Making.{IsGivenNow, IsMade, RefusesNow, request_entry};
-ghost use Rattle.ng_heap.specs.Stub.{asked_for};
+ghost use Rattle.ng_frame.specs.Puts.{asked_for};
 ghost use Rattle.ng_space.specs.Blocks.{OfSlot, Serves};
 ghost use Rattle.ng_space.specs.Passed.{EntersNoMemory, HasExcuse};
 ghost use Rattle.ng_space.specs.Tokens.{HasSlot};
@@ -17,9 +17,8 @@ ghost use Rattle.ng_terms.specs.declared.refusal.AllocRefusal.TheVariants as ref
 
 use crate::asking::asked_bytes;
 use crate::heap::Heap;
-use crate::stub::put;
 use ng_class::THRESHOLD;
-use ng_frame::next_offset;
+use ng_frame::{next_offset, put};
 use ng_group::Core;
 use ng_history::Entry;
 use ng_mapper::Mapper;

@@ -5,9 +5,8 @@ ghost use Rattle.ng_heap.specs.Trying.{HasQuickCause, LeavesQuickly, OnGiven};
 ghost use Rattle.ng_space.specs.Leaving.{KeepsSlots};
 
 use crate::heap::Heap;
-use crate::stub::put;
 use ng_class::class_of;
-use ng_frame::next_offset;
+use ng_frame::{next_offset, put};
 use ng_history::LARGE;
 use ng_mask::{Pop, pop};
 use ng_space::{Block, Hand, Name};

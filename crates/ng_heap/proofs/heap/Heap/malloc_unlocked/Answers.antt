@@ -182,6 +182,3 @@ returns-in-Won-clause-leaves g c =
 pub returns-in-Won-clause-slots : goal.returns-in-Won-clause-slots
 returns-in-Won-clause-slots g c =
     fresh_slots c.args.hand.now c.in-Won.slot (is_fresh _ _ _ _ _ _ _ _ _ (wins g c.before.before.before.before.before.before)) c.put.new.hand.view (leaves g c).others
-
-pub put-requires-clause-stub : goal.put-requires-clause-stub
-put-requires-clause-stub g c = ?

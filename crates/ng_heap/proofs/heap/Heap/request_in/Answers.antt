@@ -9,7 +9,7 @@ use Rattle.ng_view.specs.declared.view.View.{View}
 use Rattle.ng_terms.specs.declared.refusal.AllocRefusal.TheVariants as refusal
 use Rattle.ng_heap.specs.Causes.{BuildsFor, HasRefusalCause}
 use Rattle.ng_heap.specs.Making.{RefusesNow}
-use Rattle.ng_heap.specs.Stub.{asked_for}
+use Rattle.ng_frame.specs.Puts.{asked_for}
 use Rattle.ng_heap.proofs.PutLemmas.{asked_once, given_now, lies_then, made_now, put_builds, put_by, put_leaves, serves_asked, still_serves}
 use Rattle.ng_heap.proofs.SlotLemmas.{refused_leaves}
 use Rattle.ng_heap.proofs.StayLemmas.{fresh_slots}
@@ -105,6 +105,3 @@ returns-in-Err-clause-refuses g c =
     subst (λ k. EntersNoMemory c.slot_for.new.hand.view k c.args.n excuse new) c.in-Err.ensures.book.number c.refuse.ensures.view in
     subst (λ why. RefusesNow c.args.n c.args.align old why new) (sym c.refuse.ensures.why)
     (record { came = c.slot_for.new.hand.view; gains = c.in-Err.ensures.excused; enters = enters })
-
-pub put-requires-clause-stub : goal.put-requires-clause-stub
-put-requires-clause-stub g c = ?

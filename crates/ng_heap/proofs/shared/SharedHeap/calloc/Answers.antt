@@ -5,7 +5,7 @@ use Rattle.ng_terms.specs.declared.entry.Entry.TheVariants.{Give}
 use Rattle.ng_space.specs.Leaving.{Entered, Leaves, LiesStill, Stays}
 use Rattle.ng_space.proofs.LeavingFrames.{leaves_then}
 use Rattle.ng_heap.specs.Making.{IsMade}
-use Rattle.ng_heap.specs.Stub.{AreZero}
+use Rattle.ng_bytes.specs.Contents.{AreZero}
 use Rattle.ng_heap.proofs.ClearLemmas.{around_lies, asked_product, entered_then, given_cleared, made_cleared, product_entry, product_refuses}
 use Rattle.ng_heap.proofs.StayLemmas.{fresh_slots}
 use Rattle.ng_heap.proofs.shared.SharedHeap.calloc.Given.{Over}
@@ -67,6 +67,3 @@ returns-in-Err-clause-entered g c =
     (product_entry c.args.count c.args.size c.in-Some.bytes c.args.hand.now c.in-Err.why c.malloc.new.hand.view
     (asked_product c.args.count c.args.size c.in-Some.bytes c.in-Some.ensures.asked) c.in-Some.ensures.small c.in-Err.ensures.refuses)
     c.in-Err.ensures.entered
-
-pub clear-requires-clause-stub : goal.clear-requires-clause-stub
-clear-requires-clause-stub g c = ?
