@@ -9,7 +9,7 @@ use Rattle.ng_view.specs.declared.view.Held.{Held}
 use Rattle.ng_view.specs.declared.view.View.{View}
 use Rattle.ng_space.specs.Blocks.{BlockToken, HasBlock, HasFramed}
 use Rattle.ng_space.specs.Callers.{Caller}
-use Rattle.ng_space.specs.Leaving.{AreFramed, HasFrame, Leaves, LeavesAll}
+use Rattle.ng_space.specs.Leaving.{HasFrame, Leaves}
 use Rattle.ng_space.specs.Tokens.{Token}
 use Rattle.ng_space.proofs.Leaving.{booked_others, booked_rest, learns_cell, loaded_others, loaded_rest, others_then, rest_then, stored_others, stored_rest}
 use Rattle.ng_space.proofs.LeavingFrames.{known_frame, learns_frame}

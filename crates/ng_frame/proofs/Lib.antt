@@ -10,3 +10,5 @@ pub mod Places
 pub mod Besides
 pub mod Tails
 pub mod Resizes
+pub mod Locations
+pub mod Marks

@@ -1,7 +1,7 @@
 -- Where a block with an align is put.
 use Rattle.std.proofs.Common.{◌≡◌, ◌≢◌, ℕ, ◌+◌, ◌-◌, ◌*◌, ◌/◌, ◌%◌, ◌^◌, ◌<◌, ◌≤◌, sym, ap, ◌∙◌, ⊎_elim, arith}
 use Rattle.std.specs.Prelude.{max, min, bit_and}
-use Rattle.std.specs.Int.{bit_at, bit_not, next_multiple_of, w64}
+use Rattle.std.specs.Int.{bit_at, next_multiple_of, w64}
 use Rattle.std.proofs.Math.Nat.{div-add-mod', mod-eq_of_lt, mod-mod_of_dvd, mod_self, mul-mod_left}
 use Rattle.std.proofs.lemmas.Bool.{cases_eq, cases_lt}
 use Rattle.std.proofs.lemmas.Nat.{and_block, and_le_l, mod_below}

@@ -1,5 +1,5 @@
 -- A block's frame once its length has changed.
-use Rattle.std.proofs.Common.{◌≡◌, ◌≢◌, ◌⊎◌, ℕ, ◌+◌, ◌-◌, ◌*◌, ◌/◌, ◌%◌, ◌<◌, ◌≤◌, refl, sym, ap, ◌∙◌, subst, inl, inr, arith}
+use Rattle.std.proofs.Common.{◌≡◌, ◌⊎◌, ℕ, ◌+◌, ◌-◌, ◌*◌, ◌/◌, ◌%◌, ◌<◌, ◌≤◌, refl, sym, ap, ◌∙◌, subst, inl, inr, arith}
 use Rattle.std.specs.Prelude.{Option, Some}
 use Rattle.ng_terms.specs.Heap.{extent}
 use Rattle.ng_terms.specs.declared.entry.Extent.{Extent}
@@ -8,7 +8,7 @@ use Rattle.ng_rule.proofs.hand.Load.{still_knows}
 use Rattle.ng_view.specs.Blocks.{IsBlock, IsHeader, IsNarrow, IsSet, IsWide, Knows}
 use Rattle.ng_view.specs.Frame.{IsShift, IsTrailer, KnowsByte}
 use Rattle.ng_view.specs.Lists.{edit, find}
-use Rattle.ng_view.specs.Steps.{learnt, loaded, regiven, with_block, wrote}
+use Rattle.ng_view.specs.Steps.{loaded, regiven, with_block, wrote}
 use Rattle.ng_view.specs.Tells.{Tells}
 use Rattle.ng_view.specs.declared.view.Held.{Held}
 use Rattle.ng_view.specs.declared.view.Place.{Place}
@@ -16,9 +16,9 @@ use Rattle.ng_view.specs.declared.view.Start.{Start}
 use Rattle.ng_view.specs.declared.view.View.{View}
 use Rattle.ng_space.specs.Blocks.{BlockToken, HasBlock, IsReady, OfSlot, Serves, offset_in}
 use Rattle.ng_space.specs.Callers.{Caller}
-use Rattle.ng_space.specs.Leaving.{KeepsCells, Learns, LiesStill, Stays}
+use Rattle.ng_space.specs.Leaving.{KeepsCells, LiesStill, Stays}
 use Rattle.ng_space.specs.Placed.{IsSmall}
-use Rattle.ng_space.proofs.Leaving.{learns_cell, stays_loaded, stays_then}
+use Rattle.ng_space.proofs.Leaving.{stays_loaded, stays_then}
 use Rattle.ng_frame.specs.Contents.{KeepsBytes}
 use Rattle.ng_frame.specs.Puts.{IsWhole}
 use Rattle.ng_frame.proofs.Frames.{of_found, shift_kept}

@@ -8,7 +8,6 @@ use Rattle.ng_view.specs.Frame.{IsTrailer, KnowsByte}
 use Rattle.ng_view.specs.Lists.{find}
 use Rattle.ng_view.specs.Steps.{learnt, loaded, stored, wrote}
 use Rattle.ng_view.specs.Tells.{Tells}
-use Rattle.ng_view.specs.declared.view.Held.{Held}
 use Rattle.ng_view.specs.declared.view.Start.{Start}
 use Rattle.ng_view.specs.declared.view.View.{View}
 use Rattle.ng_space.specs.Blocks.{BlockToken, HasBlock, OfSlot}

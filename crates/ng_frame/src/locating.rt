@@ -3,7 +3,7 @@ ghost use Rattle.std.specs.Prelude.{◌≡◌, ◌⊎◌, ◌↔◌, ◌<◌, Is
 ghost use Rattle.ng_view.specs.Frame.{IsShift};
 ghost use Rattle.ng_space.specs.Blocks.{HasBlock, HasFramed, OfSlot};
 ghost use Rattle.ng_space.specs.Leaving.{KeepsBook, LeavesAll};
-ghost use Rattle.ng_frame.specs.Located.{IsLocated};
+ghost use Rattle.ng_frame.specs.Located.{IsLocated, TellsDistance};
 ghost use Rattle.ng_frame.specs.Puts.{IsWhole};
 
 use crate::offset::MARK;
@@ -36,6 +36,8 @@ pub fn locate<N: Name>(space: &Space<N>, hand: &mut Hand<N>, block: &Block<N>) -
     let base = space.load(hand, meta + MEM);
     let flags = space.load(hand, meta + FLAGS);
     let fields = fields_of(flags as u32, 0);
+    // The slot begins no later than the block.
+    let _at = block.at();
     let stride = stride(fields.class, fields.last, fields.maplen);
     Location {
         class: fields.class,
@@ -64,7 +66,12 @@ pub fn is_marked<N: Name>(
     let _gap = block.gap();
     // That the start is a whole cell is told by the load itself.
     let header = space.load(hand, start / 4 * 4 - 4);
-    let distance = (at - start) / 16 % 65536;
-    at == start
-        || header % 256 == 0 && header / 256 % 256 == u64::from(MARK) && header / 65536 == distance
+    at == start || tells_distance(header, (at - start) / 16)
+}
+
+// Whether a word is the header cell of a slot whose block begins so many units of 16 bytes further on.
+fn tells_distance(header: u64, distance: u64) -> bool
+    ensures { IsTrue result ↔ TellsDistance header distance }
+{
+    header % 256 == 0 && header / 256 % 256 == u64::from(MARK) && header / 65536 == distance % 65536
 }

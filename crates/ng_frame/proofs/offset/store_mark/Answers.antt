@@ -1,4 +1,4 @@
-use Rattle.std.proofs.Common.{◌+◌, ◌-◌, ◌*◌, ◌/◌, ◌%◌, refl, ap, arith}
+use Rattle.std.proofs.Common.{◌+◌, ◌-◌, ◌*◌, ◌/◌, ◌%◌, ap, arith}
 use Rattle.ng_space.proofs.LeavingFrames.{all_leaves, leaves_itself, leaves_stored}
 use Rattle.ng_frame.proofs.Frames.{marked}
 use Rattle.ng_space.proofs.Leaving.{stays_stored}

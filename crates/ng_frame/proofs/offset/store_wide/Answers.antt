@@ -1,4 +1,4 @@
-use Rattle.std.proofs.Common.{◌≡◌, ℕ, ◌-◌, ◌/◌, ◌<◌, ◌≤◌, sym, ap, ◌∙◌, subst, inl, inr, ⊎_elim, arith}
+use Rattle.std.proofs.Common.{◌<◌, ◌≤◌, ⊎_elim, arith}
 use Rattle.ng_space.proofs.LeavingFrames.{all_leaves, leaves_itself, leaves_stored}
 use Rattle.ng_space.proofs.Leaving.{stays_stored}
 use Rattle.ng_frame.proofs.Frames.{never_wide, stored_knows, widened}

@@ -1,14 +1,12 @@
-use Rattle.std.proofs.Common.{◌≡◌, ℕ, ◌+◌, ◌-◌, ◌%◌, ◌<◌, ◌≤◌, ap, ◌∙◌, subst, arith}
+use Rattle.std.proofs.Common.{◌≡◌, ◌-◌, ◌<◌, ap, ◌∙◌, subst, arith}
 use Rattle.ng_view.specs.Frame.{IsTrailer}
 use Rattle.ng_view.specs.Steps.{loaded}
 use Rattle.ng_view.specs.Tells.{Tells}
-use Rattle.ng_space.specs.Blocks.{BlockToken, HasBlock, HasFramed, OfSlot}
+use Rattle.ng_space.specs.Blocks.{HasFramed, OfSlot}
 use Rattle.ng_space.specs.Placed.{IsSmall}
-use Rattle.ng_frame.specs.Puts.{IsWhole}
 use Rattle.ng_frame.proofs.Besides.{besides_load, besides_then, regiven_leaves}
 use Rattle.ng_frame.proofs.Lengths.{block_whole}
 use Rattle.ng_frame.proofs.Resizes.{regiven_bytes, regiven_still, resize_ready, serves_still, since}
-use Rattle.ng_frame.proofs.resizing.resize.Given.{Over}
 use Rattle.ng_frame.proofs.resizing.resize.Goals as goal
 
 pub store_trailer_behind-requires-clause-whole : goal.store_trailer_behind-requires-clause-whole

@@ -1,9 +1,7 @@
 use Rattle.std.proofs.Common.{◌≡◌, ◌≢◌, ℕ, ◌+◌, ◌-◌, ◌*◌, ◌/◌, ◌%◌, ◌<◌, ap, ◌∙◌, arith}
-use Rattle.ng_space.specs.Leaving.{KeepsCells, Stays}
 use Rattle.ng_space.proofs.Leaving.{stays_then}
 use Rattle.ng_frame.proofs.Besides.{besides_store, besides_then}
 use Rattle.ng_frame.proofs.Tails.{tail_bytes, tail_first, tail_long, tail_own, tail_short}
-use Rattle.ng_frame.proofs.resizing.store_trailer_behind.Given.{Over}
 use Rattle.ng_frame.proofs.resizing.store_trailer_behind.Goals as goal
 
 pub returns-then-reserved-ge5-clause-trailer : goal.returns-then-reserved-ge5-clause-trailer
