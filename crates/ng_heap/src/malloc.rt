@@ -111,7 +111,8 @@ impl<N: Name> Heap<N> {
         ensures entered { Entered hand.old hand.new (TooLarge count size align) }
         ensures leaves { LeavesAll hand.old.view hand.new.view }
     {
-        self.space.enter(hand, Entry::TooLarge { count, size, align });
+        self.space
+            .enter(hand, Entry::TooLarge { count, size, align });
     }
 
     // Gets a slot for a block of n bytes: that of a group by itself, or one of the class that the core chooses.
