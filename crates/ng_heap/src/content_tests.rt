@@ -86,15 +86,15 @@ fn clear_dirty<N: Name, P: Rules + Drop, R: Abort>(
     let first = given(rt, &heap, &mut core, &mut hand, 92, 0x2040);
     write_and_read(rt, &heap, &mut hand, &first);
     let second = given(rt, &heap, &mut core, &mut hand, 92, 0x20a0);
-    hand.leave(second);
     let third = given(rt, &heap, &mut core, &mut hand, 92, 0x2100);
-    hand.leave(third);
     let fourth = given(rt, &heap, &mut core, &mut hand, 92, 0x2160);
-    hand.leave(fourth);
     let fifth = given(rt, &heap, &mut core, &mut hand, 92, 0x21c0);
-    hand.leave(fifth);
     frees_first(rt, &heap, &mut core, &mut hand, first);
     zeros_come(rt, &heap, &mut core, &mut hand, 0x2040);
+    hand.leave(second);
+    hand.leave(third);
+    hand.leave(fourth);
+    hand.leave(fifth);
     end(rt, alloc, heap, core, hand, 7)
 }
 
