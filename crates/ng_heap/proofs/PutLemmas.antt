@@ -10,6 +10,7 @@ use Rattle.ng_view.specs.declared.view.View.{View}
 use Rattle.ng_space.specs.Leaving.{Learns, Leaves, LeavesAll, LiesStill, Stays}
 use Rattle.ng_space.proofs.LeavingFrames.{all_leaves, leaves_then}
 use Rattle.ng_frame.specs.Puts.{Cycles, IsNear, asked_for, put_at}
+use Rattle.ng_frame.proofs.Frames.{given_by_cycle}
 use Rattle.ng_frame.proofs.Tokens.{block_stays}
 use Rattle.ng_space.specs.Blocks.{BlockToken, HasBlock, HasFramed, OfSlot, Serves}
 use Rattle.ng_space.specs.Callers.{Caller}
@@ -19,7 +20,6 @@ use Rattle.ng_group.specs.States.{State}
 use Rattle.ng_heap.specs.Causes.{BuildsFor, HasClass}
 use Rattle.ng_heap.specs.Keeps.{IsFresh}
 use Rattle.ng_heap.specs.Making.{IsGivenNow, IsMade, IsPutBy}
-use Rattle.ng_frame.proofs.Frames.{given_by_cycle}
 use Rattle.ng_heap.proofs.SlotLemmas.{gained_leaves}
 
 -- ---- the slot lies where it did

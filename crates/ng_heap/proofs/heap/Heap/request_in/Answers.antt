@@ -1,5 +1,5 @@
 use Rattle.std.proofs.Common.{sym, ap, subst}
-use Rattle.ng_frame.specs.Puts.{Cycles, IsNear}
+use Rattle.ng_frame.specs.Puts.{Cycles, IsNear, asked_for}
 use Rattle.ng_space.specs.Blocks.{BlockToken}
 use Rattle.ng_space.specs.Callers.{Caller}
 use Rattle.ng_space.specs.Leaving.{Leaves, LeavesAll}
@@ -9,7 +9,6 @@ use Rattle.ng_view.specs.declared.view.View.{View}
 use Rattle.ng_terms.specs.declared.refusal.AllocRefusal.TheVariants as refusal
 use Rattle.ng_heap.specs.Causes.{BuildsFor, HasRefusalCause}
 use Rattle.ng_heap.specs.Making.{RefusesNow}
-use Rattle.ng_frame.specs.Puts.{asked_for}
 use Rattle.ng_heap.proofs.PutLemmas.{asked_once, given_now, lies_then, made_now, put_builds, put_by, put_leaves, serves_asked, still_serves}
 use Rattle.ng_heap.proofs.SlotLemmas.{refused_leaves}
 use Rattle.ng_heap.proofs.StayLemmas.{fresh_slots}
