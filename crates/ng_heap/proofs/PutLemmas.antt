@@ -69,11 +69,12 @@ pub put_class : (class : ℕ) (mid after : Caller) (slot : Token) → HasSlot mi
     → HasClass mid slot class → HasClass after slot class
 put_class class mid after slot has stays is = same_class class mid after slot has.held has.found stays is
 
-pub put_builds : {M P : Type 0} (counts : Ask → ℕ → Type 0) (before core : State M P) (n : ℕ) (mid after : Caller) (slot other : Token) → other ≡ slot
-    → HasSlot mid slot → Stays slot.meta slot.index mid.view after.view LiesStill
-    → BuildsFor counts before core n mid slot → BuildsFor counts before core n after other
-put_builds counts before core n mid after slot other same has stays builds =
-    subst (BuildsFor counts before core n after) (sym same) (same_builds counts before core n mid after slot has.held has.found stays builds)
+pub put_builds : {M P : Type 0} (counts : Ask → ℕ → Type 0) (before core : State M P) (asked : ℕ) (mid after : Caller) (slot : Token) (n align o : ℕ)
+    (block : BlockToken) → block ≡ put_at slot n align o → HasSlot mid slot → Stays slot.meta slot.index mid.view after.view LiesStill
+    → BuildsFor counts before core asked mid slot → BuildsFor counts before core asked after block.slot
+put_builds counts before core asked mid after slot n align o block is has stays builds =
+    subst (λ (b : BlockToken). BuildsFor counts before core asked after b.slot) (sym is)
+    (same_builds counts before core asked mid after slot has.held has.found stays builds)
 
 -- ---- the word that was found gives the block's place
 pub put_by : (came found : View) (after : Caller) (slot : Token) (n align counter o : ℕ) (block : BlockToken)

@@ -36,7 +36,7 @@ returns-in-Ok-clause-builds g c =
     subst (λ k. BuildsFor (g.P.Rules.count_gives c.args.core.now.rules) c.args.core.now c.slot_for.new.core k c.put.new.hand c.put.result.slot)
     (asked_once c.args.n c.args.align c.in-Some.asked c.in-Some.ensures.asked)
     (put_builds (g.P.Rules.count_gives c.args.core.now.rules) c.args.core.now c.slot_for.new.core c.in-Some.asked c.slot_for.new.hand c.put.new.hand
-    slot c.put.result.slot (ap (λ (b : BlockToken). b.slot) c.put.ensures.block) c.in-Ok.ensures.has still c.in-Ok.ensures.builds)
+    slot c.args.n c.args.align c.next_offset-offset.result c.put.result c.put.ensures.block c.in-Ok.ensures.has still c.in-Ok.ensures.builds)
 
 pub put-requires-clause-near : goal.put-requires-clause-near
 put-requires-clause-near g c =
