@@ -1,6 +1,6 @@
 -- What a call still comes to where words were read before it, or since.
-use Rattle.std.proofs.Common.{◌≡◌, ◌≢◌, ◌⊎◌, ℕ, ◌+◌, cond, Bool, true, false, List, [], ◌∷◌, ◌++◌, map, Ok, Err, refl, sym, ap, ◌∙◌, subst, inl, inr, arith}
-use Rattle.std.specs.Prelude.{IfErr, Result, Some}
+use Rattle.std.proofs.Common.{◌≡◌, ℕ, cond, Bool, true, false, List, [], ◌∷◌, ◌++◌, map, refl, sym, ap, ◌∙◌, subst, inr}
+use Rattle.std.specs.Prelude.{Some}
 use Rattle.ng_terms.specs.declared.entry.Entry.{Entry}
 use Rattle.ng_terms.specs.declared.refusal.AllocRefusal.{AllocRefusal}
 use Rattle.ng_terms.specs.declared.refusal.AllocRefusal.TheVariants.{NoMemory, TooLarge}
@@ -22,7 +22,6 @@ use Rattle.ng_space.proofs.LeavingFrames.{all_leaves, leaves_all_then, leaves_th
 use Rattle.ng_frame.proofs.Tokens.{block_stays, slot_stays}
 use Rattle.ng_group.specs.Hands.{AreSameSlots, GainsExcuse, GainsSlot, IsSameSlot, Learns}
 use Rattle.ng_group.proofs.HandSlotLemmas.{excused, learns_same, learns_then}
-use Rattle.ng_heap.specs.Keeps.{IsFresh}
 use Rattle.ng_heap.specs.Making.{IsGivenNow, IsMade, RefusesNow}
 use Rattle.ng_heap.specs.Trying.{OnlyReads}
 use Rattle.ng_heap.proofs.SlotLemmas.{same_all, same_each}

@@ -1,5 +1,5 @@
 -- What a test's hand still is after a malloc without the lock.
-use Rattle.std.proofs.Common.{◌≡◌, ℕ, sym, ap, ◌∙◌}
+use Rattle.std.proofs.Common.{◌≡◌, ℕ, sym, ◌∙◌}
 use Rattle.ng_space.specs.Callers.{Caller}
 use Rattle.ng_space.specs.Leaving.{KeepsRest}
 use Rattle.ng_view.specs.declared.view.View.{View}

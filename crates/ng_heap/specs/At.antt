@@ -1,17 +1,15 @@
 -- Pointers that are checked: what a probe tells, and blocks freed by their address.
-use Rattle.std.specs.Prelude.{◌≡◌, ◌≢◌, ◌⊎◌, ℕ, ◌+◌, ◌-◌, ◌*◌, ◌/◌, ◌%◌, ◌^◌, ◌<◌, All, Contains, List, length, slice_index_or, swap_remove, Option, Some, None, Result, Ok, Err}
+use Rattle.std.specs.Prelude.{◌≡◌, ◌≢◌, ◌⊎◌, ℕ, ◌<◌, All, List, length, slice_index_or, swap_remove, Option, Some, None, Result, Ok, Err}
 use Rattle.ng_check.specs.Answers.{Checks, Judges, number_of}
 use Rattle.ng_check.specs.declared.fault.BadPointer.{BadPointer}
 use Rattle.ng_check.specs.declared.fault.Found.{Found}
 use Rattle.ng_check.specs.declared.fault.PointerFault.TheVariants as fault
-use Rattle.ng_header.specs.Bytes.{byte_of}
 use Rattle.ng_space.specs.Blocks.{BlockToken, HasBlock}
 use Rattle.ng_space.specs.Callers.{Caller}
 use Rattle.ng_space.specs.Entries.{Enters}
 use Rattle.ng_space.specs.Leaving.{KeepsBook, Leaves, LeavesAll}
 use Rattle.ng_terms.specs.declared.entry.Entry.{Entry}
 use Rattle.ng_terms.specs.declared.entry.Entry.TheVariants.{Refused, Take}
-use Rattle.ng_view.specs.Steps.{loaded, stored}
 use Rattle.ng_view.specs.declared.view.Start.{Start}
 use Rattle.ng_view.specs.declared.view.View.{View}
 use Rattle.ng_heap.specs.declared.freeing_at.AtRefusal.{AtRefusal}

@@ -1,4 +1,4 @@
-use Rattle.std.proofs.Common.{◌≡◌, ◌<◌, ◌≤◌, ◌*◌, ℕ, ap, subst, sym, Err}
+use Rattle.std.proofs.Common.{◌<◌, ◌≤◌, subst, sym}
 use Rattle.ng_terms.specs.Heap.{large}
 use Rattle.ng_terms.specs.declared.entry.Entry.{Entry}
 use Rattle.ng_terms.specs.declared.entry.Entry.TheVariants.{Give}
@@ -7,7 +7,7 @@ use Rattle.ng_space.proofs.LeavingFrames.{leaves_then}
 use Rattle.ng_heap.specs.Causes.{BuildsFor, HasRefusalCause}
 use Rattle.ng_heap.specs.Making.{IsMade}
 use Rattle.ng_bytes.specs.Contents.{AreZero}
-use Rattle.ng_heap.proofs.ClearLemmas.{around_lies, asked_product, entered_then, given_cleared, made_cleared, product_entry, product_refuses, small_request}
+use Rattle.ng_heap.proofs.ClearLemmas.{around_lies, asked_product, entered_then, given_cleared, made_cleared, product_entry, product_refuses}
 use Rattle.ng_heap.proofs.PutLemmas.{same_builds}
 use Rattle.ng_heap.proofs.StayLemmas.{fresh_slots}
 use Rattle.ng_heap.proofs.heap.Heap.calloc_in.Given.{Over}

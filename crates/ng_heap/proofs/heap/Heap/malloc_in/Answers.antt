@@ -1,4 +1,4 @@
-use Rattle.std.proofs.Common.{◌≡◌, ◌<◌, ◌≤◌, ℕ, subst, sym}
+use Rattle.std.proofs.Common.{◌<◌, ◌≤◌, subst, sym}
 use Rattle.std.specs.Prelude.{IfErr, IfOk}
 use Rattle.ng_terms.specs.Heap.{large}
 use Rattle.ng_heap.specs.Causes.{BuildsFor, HasRefusalCause}

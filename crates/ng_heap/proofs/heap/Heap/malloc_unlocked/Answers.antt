@@ -1,4 +1,4 @@
-use Rattle.std.proofs.Common.{◌≡◌, ◌≢◌, ◌⊎◌, ℕ, ◌+◌, ◌*◌, ◌<◌, ◌≤◌, ◌∙◌, refl, sym, ap, subst, ⊎_elim, inl, inr, arith}
+use Rattle.std.proofs.Common.{◌≡◌, ◌⊎◌, ℕ, ◌+◌, ◌*◌, ◌∙◌, sym, ap, subst, ⊎_elim, inl, inr}
 use Rattle.ng_mask.specs.declared.outcome.Pop.TheVariants as pop
 use Rattle.ng_terms.specs.declared.entry.Entry.TheVariants.{Give}
 use Rattle.ng_frame.specs.Puts.{Cycles, IsNear}

@@ -1,4 +1,4 @@
-use Rattle.std.proofs.Common.{sym, ap, subst}
+use Rattle.std.proofs.Common.{sym, subst}
 use Rattle.ng_frame.specs.Puts.{Cycles, IsNear, asked_for}
 use Rattle.ng_space.specs.Blocks.{BlockToken}
 use Rattle.ng_space.specs.Callers.{Caller}

@@ -1,8 +1,8 @@
-use Rattle.std.proofs.Common.{◌≡◌, ◌<◌, ◌≤◌, ◌*◌, ℕ, subst, sym, Err}
+use Rattle.std.proofs.Common.{◌<◌, ◌≤◌, subst, sym}
 use Rattle.ng_terms.specs.Heap.{large}
 use Rattle.ng_terms.specs.declared.entry.Entry.{Entry}
 use Rattle.ng_terms.specs.declared.entry.Entry.TheVariants.{Give}
-use Rattle.ng_space.specs.Leaving.{Entered, Leaves, LiesStill, Stays}
+use Rattle.ng_space.specs.Leaving.{Entered, Leaves}
 use Rattle.ng_space.proofs.LeavingFrames.{leaves_then}
 use Rattle.ng_heap.specs.Making.{IsMade}
 use Rattle.ng_bytes.specs.Contents.{AreZero}

@@ -1,4 +1,3 @@
-use Rattle.std.proofs.Common.{◌≡◌, inl, inr}
 use Rattle.std.proofs.lemmas.Result.{IfErr-weaker, IfOk-weaker}
 use Rattle.ng_heap.specs.Trying.{OnlyReads}
 use Rattle.ng_heap.proofs.QuickLemmas.{active_given, passed, passed_reads, served_small}
