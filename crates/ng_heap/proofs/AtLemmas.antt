@@ -1,15 +1,14 @@
 -- Blocks that are freed by their address: what a probe tells of a block of the hand.
-use Rattle.std.proofs.Common.{◌≡◌, ◌≢◌, ◌⊎◌, ℕ, ◌<◌, All, Contains, List, length, slice_index_or, refl, sym, ap, ◌∙◌, subst, inl, inr}
+use Rattle.std.proofs.Common.{◌≡◌, ◌⊎◌, ℕ, ◌<◌, All, Contains, List, length, slice_index_or, sym, ap, ◌∙◌, subst, inl, inr}
 use Rattle.std.specs.Prelude.{Option, Some, None, Result, Ok, Err}
 use Rattle.ng_header.specs.declared.reading.NominalFault.{NominalFault}
 use Rattle.ng_header.specs.declared.reading.NominalFault.TheVariants as nominal
 use Rattle.ng_check.specs.Answers.{Follows, Judges}
 use Rattle.ng_check.specs.declared.fault.BadPointer.{BadPointer}
 use Rattle.ng_check.specs.declared.fault.Found.{Found}
-use Rattle.ng_check.specs.declared.fault.PointerFault.{PointerFault}
 use Rattle.ng_check.specs.declared.fault.PointerFault.TheVariants as fault
 use Rattle.ng_frame.specs.Inspects.{damage_of, gap_of}
-use Rattle.ng_frame.specs.Judging.{IsJudged, IsKnownDamage, damage_by}
+use Rattle.ng_frame.specs.Judging.{IsJudged, IsKnownDamage}
 use Rattle.ng_frame.specs.declared.damage.Damage.{Damage}
 use Rattle.ng_space.specs.Blocks.{BlockToken, HasBlock, OfSlot}
 use Rattle.ng_space.specs.Callers.{Caller}

@@ -1,12 +1,10 @@
 -- The blocks that a test holds, where one comes or goes and where their slots stay.
-use Rattle.std.proofs.Common.{◌≡◌, ◌≢◌, ◌⊎◌, ℕ, ◌+◌, ◌-◌, ◌<◌, All, List, [], ◌∷◌, ◌++◌, length, slice_index_or, swap_remove, refl, sym, ap, ◌∙◌, subst, ⊎_elim, inl, inr, arith}
+use Rattle.std.proofs.Common.{◌≡◌, ◌≢◌, ◌⊎◌, ℕ, ◌-◌, ◌<◌, List, [], ◌∷◌, ◌++◌, length, slice_index_or, swap_remove, refl, sym, ap, ◌∙◌, subst, ⊎_elim, inl, inr, arith}
 use Rattle.std.proofs.lemmas.Bool.{cases_eq}
-use Rattle.std.proofs.lemmas.Bool.Decides.{nat_tests}
 use Rattle.std.proofs.lemmas.Grind.{common_steps}
 use Rattle.ng_space.specs.Blocks.{BlockToken, HasBlock}
 use Rattle.ng_space.specs.Callers.{Caller}
 use Rattle.ng_space.specs.Leaving.{KeepsOthers, LeavesAll}
-use Rattle.ng_space.specs.Tokens.{Token}
 use Rattle.ng_frame.proofs.Tokens.{block_kept, block_stays}
 use Rattle.ng_group.proofs.TestLemmas.{apart_flips}
 use Rattle.ng_group.specs.Hands.{IsApart}

@@ -1,6 +1,6 @@
 -- What a call still comes to where words were read before it, or since.
-use Rattle.std.proofs.Common.{◌≡◌, ◌≢◌, ◌⊎◌, ℕ, ◌+◌, cond, Bool, true, false, List, [], ◌∷◌, ◌++◌, map, Ok, Err, refl, sym, ap, ◌∙◌, subst, inl, inr, arith}
-use Rattle.std.specs.Prelude.{IfErr, Result, Some}
+use Rattle.std.proofs.Common.{◌≡◌, ℕ, cond, Bool, true, false, List, [], ◌∷◌, ◌++◌, map, refl, sym, ap, ◌∙◌, subst, inr}
+use Rattle.std.specs.Prelude.{Some}
 use Rattle.ng_terms.specs.declared.entry.Entry.{Entry}
 use Rattle.ng_terms.specs.declared.refusal.AllocRefusal.{AllocRefusal}
 use Rattle.ng_terms.specs.declared.refusal.AllocRefusal.TheVariants.{NoMemory, TooLarge}
@@ -22,7 +22,6 @@ use Rattle.ng_space.proofs.LeavingFrames.{all_leaves, leaves_all_then, leaves_th
 use Rattle.ng_frame.proofs.Tokens.{block_stays, slot_stays}
 use Rattle.ng_group.specs.Hands.{AreSameSlots, GainsExcuse, GainsSlot, IsSameSlot, Learns}
 use Rattle.ng_group.proofs.HandSlotLemmas.{excused, learns_same, learns_then}
-use Rattle.ng_heap.specs.Keeps.{IsFresh}
 use Rattle.ng_heap.specs.Making.{IsGivenNow, IsMade, RefusesNow}
 use Rattle.ng_heap.specs.Trying.{OnlyReads}
 use Rattle.ng_heap.proofs.SlotLemmas.{same_all, same_each}
@@ -123,8 +122,8 @@ module _ (old mid : Caller) (reads : OnlyReads old mid) where
   pub leaves_mid : LeavesAll old.view mid.view
   leaves_mid = learns_leaves old.view mid.view reads.learns
 
-  pub made_after : (n : ℕ) (block : BlockToken) (new : Caller) → IsMade n mid block new → IsMade n old block new
-  made_after n block new made = record {
+  pub made_after : (n align : ℕ) (block : BlockToken) (new : Caller) → IsMade n align mid block new → IsMade n align old block new
+  made_after n align block new made = record {
     len = made.len;
     align = made.align;
     framed = made.framed;
@@ -157,10 +156,10 @@ module _ (old mid : Caller) (reads : OnlyReads old mid) where
   pub slots_after : (w : View) → KeepsSlots mid.view w → KeepsSlots old.view w
   slots_after w slots m i = stays_then _ _ _ m i old.view mid.view w (λ a t. (t, t)) (leaves_mid.all.slots m i) (slots m i)
 
-  pub refuses_after : (n : ℕ) (why : AllocRefusal) (after : View) → RefusesNow n mid why after → RefusesNow n old why after
-  refuses_after n (NoMemory excuse) after spends = record {
+  pub refuses_after : (n align : ℕ) (why : AllocRefusal) (after : View) → RefusesNow n align mid why after → RefusesNow n align old why after
+  refuses_after n align (NoMemory excuse) after spends = record {
     came = spends.came;
     gains = excused_after excuse old.view mid.view spends.came reads.learns spends.gains;
     enters = subst (λ number. EntersNoMemory spends.came number n excuse after) reads.book.number spends.enters;
   }
-  refuses_after n TooLarge after is = is
+  refuses_after n align TooLarge after is = is

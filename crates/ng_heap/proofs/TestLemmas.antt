@@ -1,5 +1,5 @@
 -- What a test's hand still is after a malloc without the lock.
-use Rattle.std.proofs.Common.{◌≡◌, ℕ, sym, ap, ◌∙◌}
+use Rattle.std.proofs.Common.{◌≡◌, ℕ, sym, ◌∙◌}
 use Rattle.ng_space.specs.Callers.{Caller}
 use Rattle.ng_space.specs.Leaving.{KeepsRest}
 use Rattle.ng_view.specs.declared.view.View.{View}
@@ -10,7 +10,7 @@ use Rattle.ng_heap.specs.declared.quick.Quick.TheVariants.{Given, TooLarge, Larg
 use Rattle.ng_heap.proofs.ReadLemmas.{learns_leaves}
 
 -- a heap that might be closed still may
-may_still : (old new : Caller) (seat : View) → new.number ≡ old.number → KeepsRest old.view new.view → MayClose seat old → MayClose seat new
+pub may_still : (old new : Caller) (seat : View) → new.number ≡ old.number → KeepsRest old.view new.view → MayClose seat old → MayClose seat new
 may_still old new seat number rest may =
     record { next = may.next; number = number ∙ may.number; even = rest.sent ∙ may.even ∙ sym rest.taken }
 
