@@ -24,6 +24,7 @@ use ng_space::{Block, Hand, Name, Space};
 use ng_terms::AllocRefusal;
 
 /// Where a block's slot lies, as the meta of its group tells.
+#[derive(Clone, Copy, Debug, PartialEq, Eq)]
 pub struct Location {
     /// The class of the group, 63 for a block by itself.
     pub class: u32,
@@ -33,136 +34,136 @@ pub struct Location {
     pub start: u64,
 }
 
-pub fn locate<N: Name>(_space: &Space<N>, _hand: &mut Hand<N>, _block: &Block<N>) -> Location
+pub fn locate<N: Name>(space: &Space<N>, hand: &mut Hand<N>, block: &Block<N>) -> Location
     requires stub { ⊥ }
-    requires block { HasBlock _hand.old _block.now }
-    ensures located { OfSlot _hand.new _block.now.slot (IsLocated result _block.now) }
+    requires block { HasBlock hand.old block.now }
+    ensures located { OfSlot hand.new block.now.slot (IsLocated result block.now) }
     ensures kind { (result.class < 48) ⊎ (result.class ≡ 63) }
-    ensures whole { IsWhole _block.now.slot }
-    ensures leaves { LeavesAll _hand.old.view _hand.new.view }
-    ensures book { KeepsBook _hand.old _hand.new }
+    ensures whole { IsWhole block.now.slot }
+    ensures leaves { LeavesAll hand.old.view hand.new.view }
+    ensures book { KeepsBook hand.old hand.new }
 {
     unreachable!()
 }
 
 pub fn is_marked<N: Name>(
-    _space: &Space<N>,
-    _hand: &mut Hand<N>,
-    _block: &Block<N>,
-    _start: u64,
+    space: &Space<N>,
+    hand: &mut Hand<N>,
+    block: &Block<N>,
+    start: u64,
 ) -> bool
     requires stub { ⊥ }
-    requires block { HasBlock _hand.old _block.now }
-    requires start { _start ≡ _block.now.slot.start }
-    ensures exact { IsTrue result ↔ OfSlot _hand.new _block.now.slot (λ h. IsShift h _block.now.at) }
-    ensures framed { HasFramed _hand.old _block.now → IsTrue result }
-    ensures leaves { LeavesAll _hand.old.view _hand.new.view }
-    ensures book { KeepsBook _hand.old _hand.new }
+    requires block { HasBlock hand.old block.now }
+    requires start { start ≡ block.now.slot.start }
+    ensures exact { IsTrue result ↔ OfSlot hand.new block.now.slot (λ h. IsShift h block.now.at) }
+    ensures framed { HasFramed hand.old block.now → IsTrue result }
+    ensures leaves { LeavesAll hand.old.view hand.new.view }
+    ensures book { KeepsBook hand.old hand.new }
 {
     unreachable!()
 }
 
 pub fn resize<N: Name>(
-    _space: &Space<N>,
-    _hand: &mut Hand<N>,
-    _block: Block<N>,
-    _n: u64,
+    space: &Space<N>,
+    hand: &mut Hand<N>,
+    block: Block<N>,
+    n: u64,
 ) -> Block<N>
     requires stub { ⊥ }
-    requires spare { 1 ≤ _hand.old.spare }
-    requires block { HasBlock _hand.old _block }
-    requires marked { OfSlot _hand.old _block.slot (λ h. IsShift h _block.at) }
-    requires serves { OfSlot _hand.old _block.slot (Serves _n 16) }
-    requires within { _block.at + _n ≤ _block.slot.end }
-    ensures block { result ≡ record _block { len = _n; align = 16 } }
-    ensures framed { HasFramed _hand.new result }
-    ensures kept { Stays _block.slot.meta _block.slot.index _hand.old.view _hand.new.view (KeepsBytes _block.at (_block.at + _n)) }
-    ensures still { Stays _block.slot.meta _block.slot.index _hand.old.view _hand.new.view LiesStill }
-    ensures entered { Entered _hand.old _hand.new (Resize _block.at _n) }
-    ensures leaves { Leaves _block.slot _hand.old.view _hand.new.view }
+    requires spare { 1 ≤ hand.old.spare }
+    requires block { HasBlock hand.old block }
+    requires marked { OfSlot hand.old block.slot (λ h. IsShift h block.at) }
+    requires serves { OfSlot hand.old block.slot (Serves n 16) }
+    requires within { block.at + n ≤ block.slot.end }
+    ensures block { result ≡ record block { len = n; align = 16 } }
+    ensures framed { HasFramed hand.new result }
+    ensures kept { Stays block.slot.meta block.slot.index hand.old.view hand.new.view (KeepsBytes block.at (block.at + n)) }
+    ensures still { Stays block.slot.meta block.slot.index hand.old.view hand.new.view LiesStill }
+    ensures entered { Entered hand.old hand.new (Resize block.at n) }
+    ensures leaves { Leaves block.slot hand.old.view hand.new.view }
 {
     unreachable!()
 }
 
 pub fn copy<N: Name>(
-    _space: &Space<N>,
-    _hand: &mut Hand<N>,
-    _from: &Block<N>,
-    _to: &Block<N>,
-    _count: u64,
+    space: &Space<N>,
+    hand: &mut Hand<N>,
+    from: &Block<N>,
+    to: &Block<N>,
+    count: u64,
 )
     requires stub { ⊥ }
-    requires from { HasBlock _hand.old _from.now }
-    requires to { HasBlock _hand.old _to.now }
-    requires apart { IsOther _to.now.slot _from.now.slot.meta _from.now.slot.index }
-    requires some { _count ≤ gap_of _from.now }
-    requires within { _count ≤ _to.now.len }
-    ensures copied { (h k : Held) → find _from.now.slot.meta _from.now.slot.index _hand.new.view.held ≡ Some h
-        → find _to.now.slot.meta _to.now.slot.index _hand.new.view.held ≡ Some k → AreCopied _from.now.at _to.now.at _count h k }
-    ensures from { HasBlock _hand.new _from.now }
-    ensures to { HasBlock _hand.new _to.now }
-    ensures framed { HasFramed _hand.old _to.now → HasFramed _hand.new _to.now }
-    ensures framed_from { HasFramed _hand.old _from.now → HasFramed _hand.new _from.now }
-    ensures leaves { Leaves _to.now.slot _hand.old.view _hand.new.view }
-    ensures book { KeepsBook _hand.old _hand.new }
+    requires from { HasBlock hand.old from.now }
+    requires to { HasBlock hand.old to.now }
+    requires apart { IsOther to.now.slot from.now.slot.meta from.now.slot.index }
+    requires some { count ≤ gap_of from.now }
+    requires within { count ≤ to.now.len }
+    ensures copied { (h k : Held) → find from.now.slot.meta from.now.slot.index hand.new.view.held ≡ Some h
+        → find to.now.slot.meta to.now.slot.index hand.new.view.held ≡ Some k → AreCopied from.now.at to.now.at count h k }
+    ensures from { HasBlock hand.new from.now }
+    ensures to { HasBlock hand.new to.now }
+    ensures framed { HasFramed hand.old to.now → HasFramed hand.new to.now }
+    ensures framed_from { HasFramed hand.old from.now → HasFramed hand.new from.now }
+    ensures leaves { Leaves to.now.slot hand.old.view hand.new.view }
+    ensures book { KeepsBook hand.old hand.new }
 {
     unreachable!()
 }
 
 pub fn request_in<N: Name, M: Mapper, P: Rules>(
-    _heap: &Heap<N>,
-    _core: &mut Core<N, M, P>,
-    _hand: &mut Hand<N>,
-    _n: u64,
-    _align: u64,
+    heap: &Heap<N>,
+    core: &mut Core<N, M, P>,
+    hand: &mut Hand<N>,
+    n: u64,
+    align: u64,
 ) -> Result<Block<N>, AllocRefusal>
     requires stub { ⊥ }
-    requires spare { 1 ≤ _hand.old.spare }
-    requires alignment { IsAlignment _align }
-    requires cap { asked_for _n _align < large → asked_for _n _align ≤ N.facts.start.cap }
-    ensures made { IfOk result (λ block. IsMade _n _align _hand.old block _hand.new) }
-    ensures builds { IfOk result (λ block. BuildsFor (P.count_gives _core.old.rules) _core.old _core.new (asked_for _n _align) _hand.new block.slot) }
-    ensures given { IfOk result (λ block. IsGivenNow _hand.old.view block _core.new.counter _hand.new) }
-    ensures calm { OnOk result (NotesNone (M.refused _core.old.mapper) (M.refused _core.new.mapper)) }
+    requires spare { 1 ≤ hand.old.spare }
+    requires alignment { IsAlignment align }
+    requires cap { asked_for n align < large → asked_for n align ≤ N.facts.start.cap }
+    ensures made { IfOk result (λ block. IsMade n align hand.old block hand.new) }
+    ensures builds { IfOk result (λ block. BuildsFor (P.count_gives core.old.rules) core.old core.new (asked_for n align) hand.new block.slot) }
+    ensures given { IfOk result (λ block. IsGivenNow hand.old.view block core.new.counter hand.new) }
+    ensures calm { OnOk result (NotesNone (M.refused core.old.mapper) (M.refused core.new.mapper)) }
 
-    ensures large { (result ≡ Err refusal.TooLarge) ↔ IsTooLarge 1 _n _align }
-    ensures cause { IfErr result (HasRefusalCause (P.count_gives _core.old.rules) M.refused _core.old _core.new (asked_for _n _align)) }
-    ensures refuses { IfErr result (λ why. RefusesNow _n _align _hand.old why _hand.new.view) }
+    ensures large { (result ≡ Err refusal.TooLarge) ↔ IsTooLarge 1 n align }
+    ensures cause { IfErr result (HasRefusalCause (P.count_gives core.old.rules) M.refused core.old core.new (asked_for n align)) }
+    ensures refuses { IfErr result (λ why. RefusesNow n align hand.old why hand.new.view) }
 
-    ensures entered { Entered _hand.old _hand.new (request_entry _n _align result) }
-    ensures leaves { IfOk result (λ block. Leaves block.slot _hand.old.view _hand.new.view) }
-    ensures kept { IfErr result (λ why. LeavesAll _hand.old.view _hand.new.view) }
-    ensures slots { KeepsSlots _hand.old.view _hand.new.view }
-    ensures on { GoesOn _core.old.seat _core.new.seat }
-    ensures rules { _core.new.rules ≡ _core.old.rules }
+    ensures entered { Entered hand.old hand.new (request_entry n align result) }
+    ensures leaves { IfOk result (λ block. Leaves block.slot hand.old.view hand.new.view) }
+    ensures kept { IfErr result (λ why. LeavesAll hand.old.view hand.new.view) }
+    ensures slots { KeepsSlots hand.old.view hand.new.view }
+    ensures on { GoesOn core.old.seat core.new.seat }
+    ensures rules { core.new.rules ≡ core.old.rules }
 {
     unreachable!()
 }
 
 pub fn malloc_in<N: Name, M: Mapper, P: Rules>(
-    _heap: &Heap<N>,
-    _core: &mut Core<N, M, P>,
-    _hand: &mut Hand<N>,
-    _n: u64,
+    heap: &Heap<N>,
+    core: &mut Core<N, M, P>,
+    hand: &mut Hand<N>,
+    n: u64,
 ) -> Result<Block<N>, AllocRefusal>
     requires stub { ⊥ }
-    requires spare { 1 ≤ _hand.old.spare }
-    requires cap { _n < large → _n ≤ N.facts.start.cap }
-    ensures made { IfOk result (λ block. IsMade _n 16 _hand.old block _hand.new) }
-    ensures builds { IfOk result (λ block. BuildsFor (P.count_gives _core.old.rules) _core.old _core.new _n _hand.new block.slot) }
-    ensures given { IfOk result (λ block. IsGivenNow _hand.old.view block _core.new.counter _hand.new) }
-    ensures calm { OnOk result (NotesNone (M.refused _core.old.mapper) (M.refused _core.new.mapper)) }
+    requires spare { 1 ≤ hand.old.spare }
+    requires cap { n < large → n ≤ N.facts.start.cap }
+    ensures made { IfOk result (λ block. IsMade n 16 hand.old block hand.new) }
+    ensures builds { IfOk result (λ block. BuildsFor (P.count_gives core.old.rules) core.old core.new n hand.new block.slot) }
+    ensures given { IfOk result (λ block. IsGivenNow hand.old.view block core.new.counter hand.new) }
+    ensures calm { OnOk result (NotesNone (M.refused core.old.mapper) (M.refused core.new.mapper)) }
 
-    ensures large { (result ≡ Err refusal.TooLarge) ↔ IsTooLarge 1 _n 16 }
-    ensures cause { IfErr result (HasRefusalCause (P.count_gives _core.old.rules) M.refused _core.old _core.new _n) }
-    ensures refuses { IfErr result (λ why. RefusesNow _n 16 _hand.old why _hand.new.view) }
+    ensures large { (result ≡ Err refusal.TooLarge) ↔ IsTooLarge 1 n 16 }
+    ensures cause { IfErr result (HasRefusalCause (P.count_gives core.old.rules) M.refused core.old core.new n) }
+    ensures refuses { IfErr result (λ why. RefusesNow n 16 hand.old why hand.new.view) }
 
-    ensures entered { Entered _hand.old _hand.new (request_entry _n 16 result) }
-    ensures leaves { IfOk result (λ block. Leaves block.slot _hand.old.view _hand.new.view) }
-    ensures kept { IfErr result (λ why. LeavesAll _hand.old.view _hand.new.view) }
-    ensures slots { KeepsSlots _hand.old.view _hand.new.view }
-    ensures on { GoesOn _core.old.seat _core.new.seat }
-    ensures rules { _core.new.rules ≡ _core.old.rules }
+    ensures entered { Entered hand.old hand.new (request_entry n 16 result) }
+    ensures leaves { IfOk result (λ block. Leaves block.slot hand.old.view hand.new.view) }
+    ensures kept { IfErr result (λ why. LeavesAll hand.old.view hand.new.view) }
+    ensures slots { KeepsSlots hand.old.view hand.new.view }
+    ensures on { GoesOn core.old.seat core.new.seat }
+    ensures rules { core.new.rules ≡ core.old.rules }
 {
     unreachable!()
 }
