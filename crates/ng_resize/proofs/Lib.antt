@@ -2,4 +2,5 @@ pub mod EntryLemmas
 pub mod FitLemmas
 pub mod JudgedLemmas
 pub mod KeepLemmas
+pub mod LookLemmas
 pub mod MoveLemmas

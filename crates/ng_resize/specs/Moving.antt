@@ -47,12 +47,12 @@ frees_alone block core before after = Frees before block after
 
 -- the new block was made, the first bytes of the old one were copied to it, and the old one was freed. S is what the core is
 -- between the make and the free
-pub record Moves {S : Type 0} (makes : Caller → BlockToken → Caller → S → Type 0) (frees : S → Caller → View → Type 0)
+pub record Moves {S : Type 0} (making : Caller → BlockToken → Caller → S → Type 0) (freeing : S → Caller → View → Type 0)
     (before : Caller) (old : BlockToken) (count : ℕ) (new : BlockToken) (after : Caller) : Type 0 where
   pub made : Caller
   pub core : S
-  pub makes : makes before new made core
+  pub makes : making before new made core
   pub copied : Caller
   pub copies : Copies old new count made copied
-  pub frees : frees core copied after.view
+  pub frees : freeing core copied after.view
   pub kept : KeepsFirst count before old after new

@@ -40,7 +40,7 @@ realloc_entries block n (Ok new) = if block.at == new.at then entry.Resize block
 realloc_entries block n (Err left) = refused_entry block.at n left.1 ∷ []
 
 -- the book has these entries more, which took as many of its places
-pub record EnteredAll (before after : Caller) (entries : List Entry) : Type 0 where
+pub record EnteredAll (before after : Caller) (more : List Entry) : Type 0 where
   pub number : after.number ≡ before.number
-  pub spare : after.spare + length entries ≡ before.spare
-  pub entries : after.entries ≡ before.entries ++ entries
+  pub spare : after.spare + length more ≡ before.spare
+  pub entries : after.entries ≡ before.entries ++ more

@@ -36,9 +36,9 @@ AreCopied from to count h k = (i : ℕ) → i < count → (b : ℕ) × IsSureByt
 
 -- the hand has a framed block of n bytes with the align, in a slot apart from those that it had, and at an address
 -- apart from those of its blocks
-pub record IsMade (n align : ℕ) (before : Caller) (block : BlockToken) (after : Caller) : Type 0 where
+pub record IsMade (n a : ℕ) (before : Caller) (block : BlockToken) (after : Caller) : Type 0 where
   pub len : block.len ≡ n
-  pub align : block.align ≡ align
+  pub align : block.align ≡ a
   pub framed : HasFramed after block
   pub fresh : IsFresh before block.slot
   pub apart : (other : BlockToken) → HasBlock before other → other.at ≢ block.at
