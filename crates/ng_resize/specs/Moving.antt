@@ -1,5 +1,5 @@
 -- A block that moves into a slot of its own length.
-use Rattle.std.specs.Prelude.{◌≡◌, ℕ, ◌+◌, ◌<◌, Some, min}
+use Rattle.std.specs.Prelude.{◌≡◌, ℕ, ◌+◌, ◌<◌, Some}
 use Rattle.ng_group.specs.States.{State}
 use Rattle.ng_heap.specs.Causes.{BuildsFor}
 use Rattle.ng_heap.specs.Freeing.{Frees}
@@ -7,12 +7,12 @@ use Rattle.ng_heap.specs.Making.{IsGivenNow}
 use Rattle.ng_policy.specs.declared.ask.Ask.{Ask}
 use Rattle.ng_space.specs.Blocks.{BlockToken, OfSlot}
 use Rattle.ng_space.specs.Callers.{Caller}
-use Rattle.ng_space.specs.Leaving.{KeepsBook, Leaves}
+use Rattle.ng_space.specs.Leaving.{KeepsBook, Leaves, Stays}
 use Rattle.ng_view.specs.Frame.{KnowsByte}
 use Rattle.ng_view.specs.Lists.{find}
 use Rattle.ng_view.specs.declared.view.Held.{Held}
 use Rattle.ng_view.specs.declared.view.View.{View}
-use Rattle.ng_resize.specs.Stub.{AreCopied, IsMade}
+use Rattle.ng_resize.specs.Stub.{AreCopied, IsMade, KeepsAround}
 
 -- each of the first bytes of a block that was known is known of another block after, at the same distance
 abbrev pub KeepsFirst : ℕ → Caller → BlockToken → Caller → BlockToken → Type 0
@@ -23,6 +23,7 @@ KeepsFirst count before old after new = (i b : ℕ) → i < count
 pub record Copies (old new : BlockToken) (count : ℕ) (before after : Caller) : Type 0 where
   pub bytes : (h k : Held) → find old.slot.meta old.slot.index after.view.held ≡ Some h
       → find new.slot.meta new.slot.index after.view.held ≡ Some k → AreCopied old.at new.at count h k
+  pub around : Stays new.slot.meta new.slot.index before.view after.view (KeepsAround new.at (new.at + count))
   pub leaves : Leaves new.slot before.view after.view
   pub book : KeepsBook before after
 

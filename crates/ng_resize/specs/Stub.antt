@@ -1,5 +1,5 @@
 -- What ng_frame, ng_bytes and ng_heap are to have.
-use Rattle.std.specs.Prelude.{◌≡◌, ◌≢◌, ℕ, ◌+◌, ◌-◌, ◌<◌, ◌≤◌, max, Result, Ok, Err}
+use Rattle.std.specs.Prelude.{◌≡◌, ◌≢◌, ◌⊎◌, ℕ, ◌+◌, ◌-◌, ◌<◌, ◌≤◌, max, Result, Ok, Err}
 use Rattle.ng_frame.specs.Judging.{IsSureByte}
 use Rattle.ng_heap.specs.Keeps.{IsFresh}
 use Rattle.ng_heap.specs.Making.{SpendsExcuse}
@@ -10,6 +10,7 @@ use Rattle.ng_terms.specs.declared.entry.Entry.{Entry}
 use Rattle.ng_terms.specs.declared.entry.Entry.TheVariants.{Give, NoMemory, TooLarge}
 use Rattle.ng_terms.specs.declared.refusal.AllocRefusal.{AllocRefusal}
 use Rattle.ng_terms.specs.declared.refusal.AllocRefusal.TheVariants as refusal
+use Rattle.ng_view.specs.Blocks.{Knows}
 use Rattle.ng_view.specs.Frame.{KnowsByte}
 use Rattle.ng_view.specs.declared.view.Held.{Held}
 use Rattle.ng_view.specs.declared.view.View.{View}
@@ -18,6 +19,14 @@ use Rattle.ng_resize.specs.declared.stub.Location.{Location}
 -- the bytes that a block asks for: its length, and the room to align in
 abbrev pub asked_for : ℕ → ℕ → ℕ
 asked_for n align = (n + max align 16) - 16
+
+-- the slot lies where it did, with its block, and what was known of its bytes and cells outside of those from one address
+-- up to another is still
+pub record KeepsAround (first behind : ℕ) (h k : Held) : Type 0 where
+  pub place : k.place ≡ h.place
+  pub block : k.block ≡ h.block
+  pub cells : (a x : ℕ) → (a + 4 ≤ first) ⊎ (behind ≤ a) → Knows a x h → Knows a x k
+  pub bytes : (y b : ℕ) → (y < first) ⊎ (behind ≤ y) → KnowsByte y b h → KnowsByte y b k
 
 -- the slot lies where it did, and each byte from one address up to another that was known is known so still
 pub record KeepsBytes (first behind : ℕ) (h k : Held) : Type 0 where

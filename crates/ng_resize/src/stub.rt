@@ -6,7 +6,7 @@ ghost use Rattle.ng_group.specs.Steps.{GoesOn};
 ghost use Rattle.ng_heap.specs.Causes.{BuildsFor, HasRefusalCause};
 ghost use Rattle.ng_heap.specs.Making.{IsGivenNow};
 ghost use Rattle.ng_mapper.specs.Mapping.{NotesNone};
-ghost use Rattle.ng_resize.specs.Stub.{AreCopied, IsLocated, IsMade, KeepsBytes, RefusesNow, asked_for, request_entry};
+ghost use Rattle.ng_resize.specs.Stub.{AreCopied, IsLocated, IsMade, KeepsAround, KeepsBytes, RefusesNow, asked_for, request_entry};
 ghost use Rattle.ng_space.specs.Blocks.{BlockToken, HasBlock, HasFramed, OfSlot, Serves};
 ghost use Rattle.ng_space.specs.Leaving.{Entered, IsOther, KeepsBook, KeepsSlots, Leaves, LeavesAll, LiesStill, Stays};
 ghost use Rattle.ng_terms.specs.Heap.{IsAlignment, IsTooLarge, large};
@@ -100,6 +100,7 @@ pub fn copy<N: Name>(
     requires within { count ≤ to.now.len }
     ensures copied { (h k : Held) → find from.now.slot.meta from.now.slot.index hand.new.view.held ≡ Some h
         → find to.now.slot.meta to.now.slot.index hand.new.view.held ≡ Some k → AreCopied from.now.at to.now.at count h k }
+    ensures around { Stays to.now.slot.meta to.now.slot.index hand.old.view hand.new.view (KeepsAround to.now.at (to.now.at + count)) }
     ensures from { HasBlock hand.new from.now }
     ensures to { HasBlock hand.new to.now }
     ensures framed { HasFramed hand.old to.now → HasFramed hand.new to.now }
