@@ -17,7 +17,7 @@ use Rattle.ng_space.proofs.Leaving.{keeps_then, learns_itself}
 use Rattle.ng_frame.specs.Inspects.{damage_of, gap_of}
 use Rattle.ng_frame.specs.Judging.{IsJudged, IsKnownDamage, IsSure, IsSureByte}
 use Rattle.ng_frame.specs.declared.damage.Damage.{Damage}
-use Rattle.ng_resize.specs.Looking.{WasWhole}
+use Rattle.ng_resize.specs.Steps.{WasWhole}
 
 -- for another field than 5 the number and the byte don't count
 field_alone : (f w x n y gap : ℕ) → f ≢ 5 → reserved_in f w x gap ≡ reserved_in f n y gap

@@ -13,7 +13,8 @@ use Rattle.ng_view.specs.Frame.{IsShift}
 use Rattle.ng_view.specs.declared.view.Held.{Held}
 use Rattle.ng_view.specs.declared.view.Place.{Place}
 use Rattle.ng_resize.specs.Fitting.{MayStay, StaysInPlace}
-use Rattle.ng_resize.specs.Looking.{FindsLength, LooksFirst, WasWhole}
+use Rattle.ng_resize.specs.Looking.{FindsLength, LooksFirst}
+use Rattle.ng_resize.specs.Steps.{WasWhole}
 use Rattle.ng_resize.proofs.JudgedLemmas.{whole_now, whole_since}
 
 ok_is : {A B : Type 0} (x y : A) → ◌≡◌ {A = Result A B} (Ok x) (Ok y) → x ≡ y

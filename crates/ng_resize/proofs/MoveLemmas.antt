@@ -16,6 +16,7 @@ use Rattle.ng_view.specs.declared.view.View.{View}
 use Rattle.ng_resize.specs.Moving.{Copies, KeepsFirst}
 use Rattle.ng_resize.specs.Refusals.{EnteredAll}
 use Rattle.ng_resize.specs.Resizing.{IsResized, KeepsApart}
+use Rattle.ng_resize.specs.Steps.{HasMoved}
 use Rattle.ng_resize.specs.Stub.{AreCopied, IsMade}
 use Rattle.ng_resize.proofs.EntryLemmas.{entered_two}
 use Rattle.ng_resize.proofs.KeepLemmas.{apart_flip, apart_own, byte_stays}
@@ -40,25 +41,25 @@ module _ (before made copied : Caller) (old new : BlockToken) (n count : ℕ) (h
   -- ---- and freed
   module _ (after : Caller) (frees : Leaves old.slot copied.view after.view) (gives : Entered before made (Give n 16 new.at))
       (takes : Entered copied after (Take old.at)) (framed : HasFramed copied new) where
-    pub moved_apart : KeepsApart old before.view after.view
+    moved_apart : KeepsApart old before.view after.view
     moved_apart = apart_own old before.view copied.view after.view copied_slots frees
 
-    pub moved_rest : KeepsRest before.view after.view
+    moved_rest : KeepsRest before.view after.view
     moved_rest = rest_then before.view copied.view after.view copied_leaves.rest frees.rest
 
-    pub moved_each : AreFramed before.view → AreFramed after.view
+    moved_each : AreFramed before.view → AreFramed after.view
     moved_each all = frees.each (copied_leaves.each all)
 
-    pub moved_framed : HasFramed after new
+    moved_framed : HasFramed after new
     moved_framed = framed_kept copied after old.slot takes.number frees.others new (apart_flip old.slot new.slot (is.fresh.blocks old has)) framed
 
-    pub moved_resized : IsResized n before old new after
+    moved_resized : IsResized n before old new after
     moved_resized = record { len = is.len; align = is.align; framed = moved_framed; apart = λ other ne had. is.fresh.blocks other had }
 
-    pub moved_elsewhere : new.at ≢ old.at
+    moved_elsewhere : new.at ≢ old.at
     moved_elsewhere same = is.apart old has (sym same)
 
-    pub moved_entered : EnteredAll before after (Give n 16 new.at ∷ Take old.at ∷ [])
+    moved_entered : EnteredAll before after (Give n 16 new.at ∷ Take old.at ∷ [])
     moved_entered = entered_two before copied after (Give n 16 new.at) (Take old.at) (record {
       number = copies.book.number ∙ gives.number;
       spare = ap (λ s. s + 1) copies.book.spare ∙ gives.spare;
@@ -79,3 +80,14 @@ module _ (before made copied : Caller) (old new : BlockToken) (n count : ℕ) (h
             let here = byte_stays before copied old.slot has.held (old.at + i) b has.found (copied_slots old.slot.meta old.slot.index) known h.0 h.1 in
             let same : one.0 ≡ b = sure_is (old.at + i) b one.0 h.0 here one.1 in
             subst (λ x. KnowsByte (new.at + i) x k) same one.2
+
+    pub has_moved : HasMoved n count before old new after
+    has_moved = record {
+      resized = moved_resized;
+      elsewhere = moved_elsewhere;
+      kept = moved_kept;
+      entered = moved_entered;
+      apart = moved_apart;
+      rest = moved_rest;
+      each = moved_each;
+    }

@@ -3,5 +3,6 @@ pub mod Fitting
 pub mod Looking
 pub mod Moving
 pub mod Resizing
+pub mod Steps
 pub mod Aligning
 pub mod Stub

@@ -4,8 +4,7 @@ use Rattle.ng_frame.specs.Inspects.{Inspects, gap_of}
 use Rattle.ng_frame.specs.Judging.{IsJudged}
 use Rattle.ng_space.specs.Blocks.{BlockToken, HasFramed, OfSlot}
 use Rattle.ng_space.specs.Callers.{Caller}
-use Rattle.ng_space.specs.Leaving.{KeepsBook, Learns, LeavesAll}
-use Rattle.ng_view.specs.declared.view.Held.{Held}
+use Rattle.ng_space.specs.Leaving.{KeepsBook, LeavesAll}
 
 -- the frame of the block was read, which has no damage and tells this length
 pub record FindsLength (before : Caller) (block : BlockToken) (len : ℕ) (after : Caller) : Type 0 where
@@ -21,7 +20,3 @@ pub record LooksFirst (before : Caller) (block : BlockToken) (len : ℕ) (looked
   pub finds : FindsLength before block len read
   pub leaves : LeavesAll read.view looked.view
   pub book : KeepsBook read looked
-
--- the frame was found to have no damage and this length when no more of the slot's cells were known than now
-abbrev pub WasWhole : BlockToken → ℕ → Held → Type 0
-WasWhole block len h = (k : Held) × Learns k h × IsJudged k block.at (gap_of block) (Ok len)

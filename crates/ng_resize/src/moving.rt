@@ -1,20 +1,17 @@
 // A block that moves into a slot of its new length.
-ghost use Rattle.std.specs.Prelude.{◌≡◌, ◌≢◌, ℕ, ◌+◌, ◌<◌, ◌≤◌, ◌++◌, ◌∷◌, [], Err, IfErr, IfOk, OnOk};
+ghost use Rattle.std.specs.Prelude.{◌≡◌, ℕ, ◌<◌, ◌≤◌, IfErr, IfOk, OnOk};
 ghost use Rattle.ng_frame.specs.Inspects.{gap_of};
-ghost use Rattle.ng_group.specs.Hands.{IsApart};
 ghost use Rattle.ng_group.specs.Steps.{GoesOn};
 ghost use Rattle.ng_heap.specs.Causes.{HasRefusalCause};
 ghost use Rattle.ng_heap.specs.Freeing.{FreesIn};
 ghost use Rattle.ng_heap.specs.Making.{SpendsExcuse};
 ghost use Rattle.ng_mapper.specs.Mapping.{NotesNone};
-ghost use Rattle.ng_resize.specs.Looking.{WasWhole};
 ghost use Rattle.ng_resize.specs.Moving.{MakesIn, Moves};
-ghost use Rattle.ng_resize.specs.Refusals.{EnteredAll};
-ghost use Rattle.ng_resize.specs.Resizing.{IsResized, KeepsApart};
-ghost use Rattle.ng_space.specs.Blocks.{BlockToken, HasBlock, HasFramed, OfSlot};
-ghost use Rattle.ng_space.specs.Leaving.{AreFramed, Entered, KeepsRest, Leaves, LeavesAll};
+ghost use Rattle.ng_resize.specs.Steps.{HasMoved, WasWhole};
+ghost use Rattle.ng_space.specs.Blocks.{HasBlock, OfSlot};
+ghost use Rattle.ng_space.specs.Leaving.{Entered, Leaves, LeavesAll};
 ghost use Rattle.ng_terms.specs.Heap.{large};
-ghost use Rattle.ng_terms.specs.declared.entry.Entry.TheVariants.{Give, NoMemory, Take};
+ghost use Rattle.ng_terms.specs.declared.entry.Entry.TheVariants.{NoMemory, Take};
 ghost use Rattle.ng_terms.specs.declared.refusal.AllocRefusal.TheVariants as alloc;
 
 use crate::stub::{copy, malloc_in};
@@ -43,11 +40,9 @@ pub(crate) fn move_to_new<N: Name, M: Mapper, P: Rules>(
     requires within { count ≤ n }
     requires small { n < large }
     requires cap { n ≤ N.facts.start.cap }
-    ensures resized { IfOk result (λ new. IsResized n hand.old block new hand.new) }
-    ensures elsewhere { IfOk result (λ new. new.at ≢ block.at) }
+    ensures moved { IfOk result (λ new. HasMoved n count hand.old block new hand.new) }
     ensures moves { IfOk result (λ new. Moves (MakesIn (P.count_gives core.old.rules) core.old n)
         (λ mid copied. FreesIn (P.keep_gives core.old.rules) M.runs copied block mid core.new) hand.old block count new hand.new) }
-    ensures entered { IfOk result (λ new. EnteredAll hand.old hand.new (Give n 16 new.at ∷ Take block.at ∷ [])) }
     ensures calm { OnOk result (NotesNone (M.refused core.old.mapper) (M.refused core.new.mapper)) }
 
     ensures left { IfErr result (λ left. left.0 ≡ block) }
@@ -57,9 +52,6 @@ pub(crate) fn move_to_new<N: Name, M: Mapper, P: Rules>(
     ensures refused { IfErr result (λ left. Entered hand.old hand.new (NoMemory n left.1)) }
     ensures kept { IfErr result (λ left. LeavesAll hand.old.view hand.new.view) }
 
-    ensures apart { KeepsApart block hand.old.view hand.new.view }
-    ensures rest { KeepsRest hand.old.view hand.new.view }
-    ensures each { AreFramed hand.old.view → AreFramed hand.new.view }
     ensures on { GoesOn core.old.seat core.new.seat }
     ensures rules { core.new.rules ≡ core.old.rules }
 {

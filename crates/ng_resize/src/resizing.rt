@@ -1,5 +1,6 @@
 // A block that gets another length.
 ghost use Rattle.std.specs.Prelude.{◌≡◌, ◌+◌, ◌<◌, ◌≤◌, ◌↔◌, IfErr, IfOk, OnOk, Ok, Some, None, min};
+ghost use Rattle.ng_frame.specs.Inspects.{number_of};
 ghost use Rattle.ng_frame.specs.Judging.{IsKnownDamage};
 ghost use Rattle.ng_group.specs.Hands.{IsApart};
 ghost use Rattle.ng_group.specs.Steps.{GoesOn};
@@ -8,12 +9,14 @@ ghost use Rattle.ng_heap.specs.Keeps.{KeepsFrames};
 ghost use Rattle.ng_mapper.specs.Mapping.{NotesNone};
 ghost use Rattle.ng_resize.specs.Fitting.{StaysInPlace};
 ghost use Rattle.ng_resize.specs.Moving.{KeepsFirst, MakesIn};
-ghost use Rattle.ng_resize.specs.Refusals.{EnteredAll, damage_told, realloc_entries, refusal_of};
+ghost use Rattle.ng_resize.specs.Refusals.{EnteredAll, damage_named, damage_told, realloc_entries, refusal_of};
 ghost use Rattle.ng_resize.specs.Resizing.{HasResizeCause, IsLeft, IsResized, KeepsApart, RefusesOfCore, with_len};
 ghost use Rattle.ng_resize.specs.declared.refusal.ResizeRefusal.TheVariants.{TooLarge};
 ghost use Rattle.ng_space.specs.Blocks.{BlockToken, HasBlock, HasFramed, OfSlot};
-ghost use Rattle.ng_space.specs.Leaving.{KeepsRest};
+ghost use Rattle.ng_space.specs.Entries.{Enters};
+ghost use Rattle.ng_space.specs.Leaving.{Entered, KeepsRest, LeavesAll};
 ghost use Rattle.ng_terms.specs.Heap.{IsTooLarge, large};
+ghost use Rattle.ng_terms.specs.declared.entry.Entry.TheVariants.{Refused};
 
 use crate::fitting::may_stay;
 use crate::moving::move_to_new;
@@ -104,7 +107,7 @@ fn refuse_damaged<N: Name>(
     ensures has { HasBlock hand.new block }
     ensures names { damage_named result.1 ≡ Some damage }
     ensures enters { Enters hand.old.view hand.old.number (Refused block.at (number_of damage)) hand.new.view }
-    ensures entered { EnteredAll hand.old hand.new (refused_entry block.at 0 result.1 ∷ []) }
+    ensures entered { Entered hand.old hand.new (Refused block.at (number_of damage)) }
     ensures leaves { LeavesAll hand.old.view hand.new.view }
 {
     let at = block.at();

@@ -63,12 +63,7 @@ pub fn is_marked<N: Name>(
     unreachable!()
 }
 
-pub fn resize<N: Name>(
-    space: &Space<N>,
-    hand: &mut Hand<N>,
-    block: Block<N>,
-    n: u64,
-) -> Block<N>
+pub fn resize<N: Name>(space: &Space<N>, hand: &mut Hand<N>, block: Block<N>, n: u64) -> Block<N>
     requires stub { ⊥ }
     requires spare { 1 ≤ hand.old.spare }
     requires block { HasBlock hand.old block }
