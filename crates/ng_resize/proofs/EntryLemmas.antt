@@ -1,8 +1,7 @@
 -- What a resize enters.
-use Rattle.std.proofs.Common.{append_assoc, cond, eqb, eq-eqb, false, true, ◌≡◌, ◌≢◌, ℕ, ◌+◌, List, [], ◌∷◌, ◌++◌, arith, sym, ap, ◌∙◌, refl, subst}
+use Rattle.std.proofs.Common.{append_assoc, cond, eqb, eq-eqb, false, true, max, ◌≡◌, ◌≢◌, ℕ, ◌+◌, ◌*◌, ◌^◌, ◌<◌, ◌≤◌, List, [], ◌∷◌, ◌++◌, arith, sym, ap, ◌∙◌, refl, ⊎_elim}
 use Rattle.std.proofs.lemmas.Grind.{common_steps}
-use Rattle.std.specs.Prelude.{Result, Ok, Err}
-use Rattle.ng_space.specs.Blocks.{BlockToken}
+use Rattle.ng_terms.specs.Heap.{IsTooLarge, large}
 use Rattle.ng_space.specs.Callers.{Caller}
 use Rattle.ng_space.specs.Leaving.{Entered, KeepsBook}
 use Rattle.ng_terms.specs.declared.entry.Entry.{Entry}
@@ -40,3 +39,7 @@ pub entries_stayed : (at n : ℕ) → cond (eqb at at) (Resize at n ∷ []) (Giv
 entries_stayed at n =
     let same : eqb at at ≡ true = eq-eqb at at refl in
     ap (λ b. cond b (Resize at n ∷ []) (Give n 16 at ∷ Take at ∷ [])) same
+
+-- a size below the largest isn't too large
+pub not_large : (n : ℕ) → n < large → IsTooLarge 1 n 16 → ⊥
+not_large n small is = ⊎_elim (λ (align : 2 ^ 35 ≤ 16). absurd (omega arith)) (λ (size : large + 16 ≤ 1 * n + max 16 16). absurd (omega arith)) is

@@ -4,3 +4,5 @@ pub mod JudgedLemmas
 pub mod KeepLemmas
 pub mod LookLemmas
 pub mod MoveLemmas
+pub mod OutcomeLemmas
+pub mod VerdictLemmas
