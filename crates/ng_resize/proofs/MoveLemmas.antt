@@ -13,7 +13,7 @@ use Rattle.ng_view.specs.Frame.{KnowsByte}
 use Rattle.ng_view.specs.Lists.{find}
 use Rattle.ng_view.specs.declared.view.Held.{Held}
 use Rattle.ng_view.specs.declared.view.View.{View}
-use Rattle.ng_resize.specs.Moving.{Copies, KeepsFirst}
+use Rattle.ng_resize.specs.Moving.{Copies, KeepsFirst, Moves}
 use Rattle.ng_resize.specs.Refusals.{EnteredAll}
 use Rattle.ng_resize.specs.Resizing.{IsResized, KeepsApart}
 use Rattle.ng_resize.specs.Steps.{HasMoved}
@@ -91,3 +91,9 @@ module _ (before made copied : Caller) (old new : BlockToken) (n count : ℕ) (h
       rest = moved_rest;
       each = moved_each;
     }
+
+-- the same of an equal number of bytes
+pub moves_as : {S : Type 0} (making : Caller → BlockToken → Caller → S → Type 0) (freeing : S → Caller → View → Type 0)
+    (before : Caller) (old : BlockToken) (count other : ℕ) (new : BlockToken) (after : Caller) → count ≡ other
+    → Moves making freeing before old count new after → Moves making freeing before old other new after
+moves_as making freeing before old count other new after same moves = subst (λ k. Moves making freeing before old k new after) same moves

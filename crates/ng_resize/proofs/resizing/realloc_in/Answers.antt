@@ -6,6 +6,7 @@ use Rattle.ng_resize.specs.Moving.{KeepsFirst}
 use Rattle.ng_resize.proofs.EntryLemmas.{not_large}
 use Rattle.ng_resize.proofs.FitLemmas.{stays_serves}
 use Rattle.ng_resize.proofs.LookLemmas.{book_then, finds_length, goes_away, looked_whole, looks_first, rule_goes, rule_stays, stays_here}
+use Rattle.ng_resize.proofs.MoveLemmas.{moves_as}
 use Rattle.ng_resize.proofs.OutcomeLemmas.{here_apart, here_bytes, here_frames, here_kept, here_leaves, here_others, here_stays, left_apart, left_frames, left_is, left_others, moved_apart, moved_first, moved_frames, moved_others, moved_resized, moved_rest, moved_stays, refused_stays}
 use Rattle.ng_resize.proofs.VerdictLemmas.{damage_refuses, judged_within, known_none, known_some, named_refuses}
 use Rattle.ng_resize.proofs.resizing.realloc_in.Goals as goal
@@ -184,7 +185,7 @@ move_to_new-requires-clause-some g c =
     let finds = finds_length c.args.hand.now c.nominal_size.new.hand c.args.block c.in-Ok.len c.nominal_size.result c.in-Ok.is looks.cause looks.judged looks.framed looks.leaves looks.book in
     let read = block_stays c.args.hand.now c.nominal_size.new.hand looks.book.number c.args.block (looks.leaves.all.slots c.args.block.slot.meta c.args.block.slot.index) c.requires.block in
     let within = judged_within c.args.block.at (gap_of c.args.block) c.in-Ok.len read.held (finds.judged read.held read.found) in
-    ?
+    omega (arith, within, c.min.ensures)
 
 pub returns-in-Ok-move_to_new-clause-resized : goal.returns-in-Ok-move_to_new-clause-resized
 returns-in-Ok-move_to_new-clause-resized g c =
@@ -210,7 +211,7 @@ returns-in-Ok-move_to_new-clause-kept g c =
     let all = leaves_all_then c.args.hand.now.view c.nominal_size.new.hand.view c.may_stay.new.hand.view looks.leaves stay.leaves in
     let book = book_then c.args.hand.now c.nominal_size.new.hand c.may_stay.new.hand looks.book stay.book in
     let finds = finds_length c.args.hand.now c.nominal_size.new.hand c.args.block c.in-Ok.len c.nominal_size.result c.in-Ok.is looks.cause looks.judged looks.framed looks.leaves looks.book in
-    λ f. subst (λ k. KeepsFirst (min k c.args.n) c.args.hand.now c.args.block c.move_to_new.new.hand c.in-Ok-move_to_new.new) (finds.framed f) (moved_first c.args.hand.now c.may_stay.new.hand c.move_to_new.new.hand c.args.block c.in-Ok-move_to_new.new c.args.n _ c.requires.block book all c.in-Ok-move_to_new.ensures.moved)
+    λ f. subst (λ k. KeepsFirst (min k c.args.n) c.args.hand.now c.args.block c.move_to_new.new.hand c.in-Ok-move_to_new.new) (finds.framed f) (subst (λ k. KeepsFirst k c.args.hand.now c.args.block c.move_to_new.new.hand c.in-Ok-move_to_new.new) c.min.ensures (moved_first c.args.hand.now c.may_stay.new.hand c.move_to_new.new.hand c.args.block c.in-Ok-move_to_new.new c.args.n _ c.requires.block book all c.in-Ok-move_to_new.ensures.moved))
 
 pub returns-in-Ok-move_to_new-clause-large : goal.returns-in-Ok-move_to_new-clause-large
 returns-in-Ok-move_to_new-clause-large g c =
@@ -232,7 +233,7 @@ returns-in-Ok-move_to_new-clause-cause g c =
       looked = c.may_stay.new.hand;
       looks = looks_first c.args.hand.now c.nominal_size.new.hand c.may_stay.new.hand c.args.block c.in-Ok.len c.args.n c.may_stay.result c.requires.block finds stay.leaves stay.book stay.exact;
       goes = goes_away c.args.hand.now c.nominal_size.new.hand c.may_stay.new.hand c.args.block c.in-Ok.len c.args.n c.may_stay.result c.requires.block finds stay.leaves stay.book stay.exact c.if-may_stay.false;
-      moves = c.in-Ok-move_to_new.ensures.moves;
+      moves = moves_as _ _ _ _ _ _ _ _ c.min.ensures c.in-Ok-move_to_new.ensures.moves;
     })
 
 pub returns-in-Ok-move_to_new-clause-apart : goal.returns-in-Ok-move_to_new-clause-apart
