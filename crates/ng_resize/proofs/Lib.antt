@@ -5,4 +5,5 @@ pub mod KeepLemmas
 pub mod LookLemmas
 pub mod MoveLemmas
 pub mod OutcomeLemmas
+pub mod ShareLemmas
 pub mod VerdictLemmas
