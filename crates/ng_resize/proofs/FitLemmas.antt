@@ -19,8 +19,8 @@ use Rattle.ng_view.specs.declared.view.Held.{Held}
 use Rattle.ng_view.specs.declared.view.Place.{Place}
 use Rattle.ng_view.specs.declared.view.Start.{Start}
 use Rattle.ng_resize.specs.Fitting.{FitsRun, FitsSlot, MayStay, StaysInPlace}
-use Rattle.ng_resize.specs.Stub.{IsLocated}
-use Rattle.ng_resize.specs.declared.stub.Location.{Location}
+use Rattle.ng_frame.specs.Located.{IsLocated}
+use Rattle.ng_frame.specs.declared.locating.Location.{Location}
 
 -- ---- the rule is one that the class serves
 stays_class : (n class gap pages skipped : ℕ) → FitsSlot class gap n ⊎ FitsRun class pages skipped n → IsAllowedClass n class

@@ -17,7 +17,8 @@ use Rattle.ng_resize.specs.Moving.{Copies, KeepsFirst, Moves}
 use Rattle.ng_resize.specs.Refusals.{EnteredAll}
 use Rattle.ng_resize.specs.Resizing.{IsResized, KeepsApart}
 use Rattle.ng_resize.specs.Steps.{HasMoved}
-use Rattle.ng_resize.specs.Stub.{AreCopied, IsMade}
+use Rattle.ng_bytes.specs.Contents.{AreCopied}
+use Rattle.ng_heap.specs.Making.{IsMade}
 use Rattle.ng_resize.proofs.EntryLemmas.{entered_two}
 use Rattle.ng_resize.proofs.KeepLemmas.{apart_flip, apart_own, byte_stays}
 

@@ -18,7 +18,7 @@ use Rattle.ng_resize.specs.Looking.{FindsLength, LooksFirst}
 use Rattle.ng_resize.specs.Moving.{KeepsFirst}
 use Rattle.ng_resize.specs.Resizing.{IsLeft, IsResized, KeepsApart, ResizesHere, with_len}
 use Rattle.ng_resize.specs.Steps.{HasMoved}
-use Rattle.ng_resize.specs.Stub.{KeepsBytes}
+use Rattle.ng_frame.specs.Contents.{KeepsBytes}
 use Rattle.ng_resize.specs.declared.refusal.ResizeRefusal.{ResizeRefusal}
 use Rattle.ng_resize.proofs.KeepLemmas.{apart_own, apart_then, byte_stays, others_framed}
 

@@ -38,12 +38,15 @@ module _ {M P : Type 0} (counts : Ask → ℕ → Type 0) (keeps : Spare → Boo
       → HasResizeCause (makes_alone n) (frees_alone block) before block n result after
   cause_alone (Ok new) cause = ⊎_elim
       (λ (here : (new ≡ with_len n block) × ResizesHere before block n after). inl here)
-      (λ (moved : (¬ (new.at ≡ block.at)) × ResizesByMove in_core to_core before block n new after). inr (moved.0, record {
-        len = moved.1.len;
-        looked = moved.1.looked;
-        looks = moved.1.looks;
-        goes = moved.1.goes;
-        moves = moves_alone moved.1.looked (min moved.1.len n) new moved.1.moves;
-      }))
+      (λ (moved : (¬ (new.at ≡ block.at)) × ResizesByMove in_core to_core before block n new after). inr (
+        moved.0,
+        record {
+          len = moved.1.len;
+          looked = moved.1.looked;
+          looks = moved.1.looks;
+          goes = moved.1.goes;
+          moves = moves_alone moved.1.looked (min moved.1.len n) new moved.1.moves;
+        },
+      ))
       cause
   cause_alone (Err left) cause = cause

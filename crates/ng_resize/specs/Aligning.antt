@@ -13,7 +13,7 @@ use Rattle.ng_terms.specs.declared.entry.Entry.{Entry}
 use Rattle.ng_terms.specs.declared.entry.Entry.TheVariants as entry
 use Rattle.ng_terms.specs.declared.refusal.AllocRefusal.TheVariants as alloc
 use Rattle.ng_view.specs.declared.view.View.{View}
-use Rattle.ng_resize.specs.Stub.{asked_for}
+use Rattle.ng_frame.specs.Puts.{asked_for}
 use Rattle.ng_resize.specs.declared.refusal.AlignRefusal.{AlignRefusal}
 use Rattle.ng_resize.specs.declared.refusal.AlignRefusal.TheVariants.{BadAlign, TooLarge, NoMemory}
 

@@ -5,4 +5,3 @@ pub mod Moving
 pub mod Resizing
 pub mod Steps
 pub mod Aligning
-pub mod Stub

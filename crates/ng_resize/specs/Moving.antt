@@ -12,7 +12,9 @@ use Rattle.ng_view.specs.Frame.{KnowsByte}
 use Rattle.ng_view.specs.Lists.{find}
 use Rattle.ng_view.specs.declared.view.Held.{Held}
 use Rattle.ng_view.specs.declared.view.View.{View}
-use Rattle.ng_resize.specs.Stub.{AreCopied, IsMade, KeepsAround}
+use Rattle.ng_bytes.specs.Contents.{AreCopied}
+use Rattle.ng_frame.specs.Contents.{KeepsAround}
+use Rattle.ng_heap.specs.Making.{IsMade}
 
 -- each of the first bytes of a block that was known is known of another block after, at the same distance
 abbrev pub KeepsFirst : ℕ → Caller → BlockToken → Caller → BlockToken → Type 0

@@ -17,7 +17,7 @@ use Rattle.ng_view.specs.declared.view.View.{View}
 use Rattle.ng_resize.specs.Fitting.{MayStay}
 use Rattle.ng_resize.specs.Looking.{LooksFirst}
 use Rattle.ng_resize.specs.Moving.{KeepsFirst, Moves}
-use Rattle.ng_resize.specs.Stub.{KeepsBytes}
+use Rattle.ng_frame.specs.Contents.{KeepsBytes}
 use Rattle.ng_resize.specs.declared.refusal.ResizeRefusal.{ResizeRefusal}
 use Rattle.ng_resize.specs.declared.refusal.ResizeRefusal.TheVariants.{NoMemory, TooLarge, BadReserved, Overrun}
 

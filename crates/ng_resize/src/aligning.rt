@@ -5,13 +5,13 @@ ghost use Rattle.ng_heap.specs.Causes.{BuildsFor};
 ghost use Rattle.ng_heap.specs.Making.{IsGivenNow};
 ghost use Rattle.ng_mapper.specs.Mapping.{NotesNone};
 ghost use Rattle.ng_resize.specs.Aligning.{HasAlignCause, RefusesAligned, aligned_entry};
-ghost use Rattle.ng_resize.specs.Stub.{IsMade, asked_for};
+ghost use Rattle.ng_frame.specs.Puts.{asked_for};
+ghost use Rattle.ng_heap.specs.Making.{IsMade};
 ghost use Rattle.ng_resize.specs.declared.refusal.AlignRefusal.TheVariants as refusal;
 ghost use Rattle.ng_space.specs.Leaving.{Entered, KeepsSlots, Leaves, LeavesAll};
 ghost use Rattle.ng_terms.specs.Heap.{IsAlignment, IsTooLarge, large};
 
 use crate::refusal::AlignRefusal;
-use crate::stub::request_in;
 use ng_group::Core;
 use ng_heap::Heap;
 use ng_history::Entry;
@@ -54,7 +54,7 @@ pub fn aligned_in<N: Name, M: Mapper, P: Rules>(
         heap.space().enter(hand, Entry::BadAlign { align });
         return Err(AlignRefusal::BadAlign);
     }
-    match request_in(heap, core, hand, n, align) {
+    match heap.request_in(core, hand, n, align) {
         Ok(block) => Ok(block),
         Err(AllocRefusal::NoMemory { excuse }) => Err(AlignRefusal::NoMemory { excuse }),
         Err(AllocRefusal::TooLarge) => Err(AlignRefusal::TooLarge),

@@ -1,13 +1,13 @@
 // Whether a block may get another length where it stands.
 ghost use Rattle.std.specs.Prelude.{◌≡◌, ◌⊎◌, ◌+◌, ◌^◌, ◌<◌, ◌≤◌, ◌↔◌, IsTrue};
 ghost use Rattle.ng_resize.specs.Fitting.{FitsRun, FitsSlot, MayStay, StaysInPlace};
-ghost use Rattle.ng_resize.specs.Stub.{IsLocated};
+ghost use Rattle.ng_frame.specs.Located.{IsLocated};
 ghost use Rattle.ng_space.specs.Blocks.{HasBlock, OfSlot};
 ghost use Rattle.ng_space.specs.Leaving.{KeepsBook, LeavesAll};
 ghost use Rattle.ng_terms.specs.Heap.{large};
 
-use crate::stub::{Location, is_marked, locate};
 use ng_class::{THRESHOLD, class_of};
+use ng_frame::{Location, is_marked, locate};
 use ng_space::{Block, Hand, Name, Space};
 
 // The class of a block by itself.

@@ -7,7 +7,6 @@ mod moving;
 mod refusal;
 mod resizing;
 mod sharing;
-mod stub;
 
 pub use aligning::aligned_in;
 pub use refusal::{AlignRefusal, ResizeRefusal};

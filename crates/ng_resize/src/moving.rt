@@ -14,7 +14,7 @@ ghost use Rattle.ng_terms.specs.Heap.{large};
 ghost use Rattle.ng_terms.specs.declared.entry.Entry.TheVariants.{NoMemory, Take};
 ghost use Rattle.ng_terms.specs.declared.refusal.AllocRefusal.TheVariants as alloc;
 
-use crate::stub::{copy, malloc_in};
+use ng_bytes::copy;
 use ng_frame::nominal_size;
 use ng_group::Core;
 use ng_heap::Heap;
@@ -55,7 +55,7 @@ pub(crate) fn move_to_new<N: Name, M: Mapper, P: Rules>(
     ensures on { GoesOn core.old.seat core.new.seat }
     ensures rules { core.new.rules ≡ core.old.rules }
 {
-    match malloc_in(heap, core, hand, n) {
+    match heap.malloc_in(core, hand, n) {
         Ok(new) => {
             copy(heap.space(), hand, &block, &new, count);
             free_whole(heap, core, hand, block);

@@ -10,6 +10,3 @@ pub returns-then-not-is_alignment-clause-slots : goal.returns-then-not-is_alignm
 returns-then-not-is_alignment-clause-slots g c =
     let leaves : LeavesAll c.args.hand.now.view c.enter.new.hand.view = leaves_entered c.args.hand.now.view c.enter.new.hand.view _ _ c.enter.ensures.view in
     leaves.all.slots
-
-pub request_in-requires-clause-stub : goal.request_in-requires-clause-stub
-request_in-requires-clause-stub g c = ?

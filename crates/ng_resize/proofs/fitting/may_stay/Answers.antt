@@ -2,12 +2,6 @@ use Rattle.std.proofs.Common.{◌≡◌}
 use Rattle.ng_space.proofs.LeavingFrames.{leaves_all_then}
 use Rattle.ng_resize.proofs.fitting.may_stay.Goals as goal
 
-pub locate-location-requires-clause-stub : goal.locate-location-requires-clause-stub
-locate-location-requires-clause-stub g c = ?
-
-pub is_marked-requires-clause-stub : goal.is_marked-requires-clause-stub
-is_marked-requires-clause-stub g c = ?
-
 pub returns-then-not-fits-clause-leaves : goal.returns-then-not-fits-clause-leaves
 returns-then-not-fits-clause-leaves g c = leaves_all_then c.args.hand.now.view c.locate-location.new.hand.view c.fits.new.hand.view c.locate-location.ensures.leaves c.fits.ensures.leaves
 

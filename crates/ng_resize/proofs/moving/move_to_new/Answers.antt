@@ -7,12 +7,6 @@ use Rattle.ng_resize.proofs.MoveLemmas.{copied_slots, has_moved, moved_kept}
 use Rattle.ng_resize.proofs.moving.move_to_new.Goals as goal
 
 -- ---- the calls
-pub malloc_in-requires-clause-stub : goal.malloc_in-requires-clause-stub
-malloc_in-requires-clause-stub g c = ?
-
-pub copy-requires-clause-stub : goal.copy-requires-clause-stub
-copy-requires-clause-stub g c = ?
-
 pub copy-requires-clause-from : goal.copy-requires-clause-from
 copy-requires-clause-from g c =
     block_stays c.args.hand.now c.malloc_in.new.hand c.malloc_in.ensures.entered.number c.args.block

@@ -68,9 +68,6 @@ may_stay-requires-clause-block g c =
     block_stays c.args.hand.now c.nominal_size.new.hand looks.book.number c.args.block (looks.leaves.all.slots c.args.block.slot.meta c.args.block.slot.index) c.requires.block
 
 -- ---- it stays
-pub resize-requires-clause-stub : goal.resize-requires-clause-stub
-resize-requires-clause-stub g c = ?
-
 pub resize-requires-clause-block : goal.resize-requires-clause-block
 resize-requires-clause-block g c =
     let looks = c.nominal_size.ensures in
@@ -125,14 +122,17 @@ returns-then-may_stay-clause-cause g c =
     let all = leaves_all_then c.args.hand.now.view c.nominal_size.new.hand.view c.may_stay.new.hand.view looks.leaves stay.leaves in
     let book = book_then c.args.hand.now c.nominal_size.new.hand c.may_stay.new.hand looks.book stay.book in
     let finds = finds_length c.args.hand.now c.nominal_size.new.hand c.args.block c.in-Ok.len c.nominal_size.result c.in-Ok.is looks.cause looks.judged looks.framed looks.leaves looks.book in
-    inl (c.resize.ensures.block, record {
-      len = c.in-Ok.len;
-      looked = c.may_stay.new.hand;
-      looks = looks_first c.args.hand.now c.nominal_size.new.hand c.may_stay.new.hand c.args.block c.in-Ok.len c.args.n c.may_stay.result c.requires.block finds stay.leaves stay.book stay.exact;
-      stays = stays_here c.args.hand.now c.nominal_size.new.hand c.may_stay.new.hand c.args.block c.in-Ok.len c.args.n c.may_stay.result c.requires.block finds stay.leaves stay.book stay.exact c.if-may_stay.true;
-      bytes = here_bytes c.args.hand.now c.may_stay.new.hand c.resize.new.hand c.args.block c.args.n c.requires.block book all c.resize.ensures.leaves c.resize.ensures.kept;
-      leaves = here_leaves c.args.hand.now c.may_stay.new.hand c.resize.new.hand c.args.block c.args.n c.requires.block book all c.resize.ensures.leaves;
-    })
+    inl (
+      c.resize.ensures.block,
+      record {
+        len = c.in-Ok.len;
+        looked = c.may_stay.new.hand;
+        looks = looks_first c.args.hand.now c.nominal_size.new.hand c.may_stay.new.hand c.args.block c.in-Ok.len c.args.n c.may_stay.result c.requires.block finds stay.leaves stay.book stay.exact;
+        stays = stays_here c.args.hand.now c.nominal_size.new.hand c.may_stay.new.hand c.args.block c.in-Ok.len c.args.n c.may_stay.result c.requires.block finds stay.leaves stay.book stay.exact c.if-may_stay.true;
+        bytes = here_bytes c.args.hand.now c.may_stay.new.hand c.resize.new.hand c.args.block c.args.n c.requires.block book all c.resize.ensures.leaves c.resize.ensures.kept;
+        leaves = here_leaves c.args.hand.now c.may_stay.new.hand c.resize.new.hand c.args.block c.args.n c.requires.block book all c.resize.ensures.leaves;
+      },
+    )
 
 pub returns-then-may_stay-clause-apart : goal.returns-then-may_stay-clause-apart
 returns-then-may_stay-clause-apart g c =
@@ -228,13 +228,16 @@ returns-in-Ok-move_to_new-clause-cause g c =
     let all = leaves_all_then c.args.hand.now.view c.nominal_size.new.hand.view c.may_stay.new.hand.view looks.leaves stay.leaves in
     let book = book_then c.args.hand.now c.nominal_size.new.hand c.may_stay.new.hand looks.book stay.book in
     let finds = finds_length c.args.hand.now c.nominal_size.new.hand c.args.block c.in-Ok.len c.nominal_size.result c.in-Ok.is looks.cause looks.judged looks.framed looks.leaves looks.book in
-    inr (c.in-Ok-move_to_new.ensures.moved.elsewhere, record {
-      len = c.in-Ok.len;
-      looked = c.may_stay.new.hand;
-      looks = looks_first c.args.hand.now c.nominal_size.new.hand c.may_stay.new.hand c.args.block c.in-Ok.len c.args.n c.may_stay.result c.requires.block finds stay.leaves stay.book stay.exact;
-      goes = goes_away c.args.hand.now c.nominal_size.new.hand c.may_stay.new.hand c.args.block c.in-Ok.len c.args.n c.may_stay.result c.requires.block finds stay.leaves stay.book stay.exact c.if-may_stay.false;
-      moves = moves_as _ _ _ _ _ _ _ _ c.min.ensures c.in-Ok-move_to_new.ensures.moves;
-    })
+    inr (
+      c.in-Ok-move_to_new.ensures.moved.elsewhere,
+      record {
+        len = c.in-Ok.len;
+        looked = c.may_stay.new.hand;
+        looks = looks_first c.args.hand.now c.nominal_size.new.hand c.may_stay.new.hand c.args.block c.in-Ok.len c.args.n c.may_stay.result c.requires.block finds stay.leaves stay.book stay.exact;
+        goes = goes_away c.args.hand.now c.nominal_size.new.hand c.may_stay.new.hand c.args.block c.in-Ok.len c.args.n c.may_stay.result c.requires.block finds stay.leaves stay.book stay.exact c.if-may_stay.false;
+        moves = moves_as _ _ _ _ _ _ _ _ c.min.ensures c.in-Ok-move_to_new.ensures.moves;
+      },
+    )
 
 pub returns-in-Ok-move_to_new-clause-apart : goal.returns-in-Ok-move_to_new-clause-apart
 returns-in-Ok-move_to_new-clause-apart g c =
@@ -300,14 +303,16 @@ returns-in-Err-move_to_new-clause-cause g c =
     let stay = c.may_stay.ensures in
     let all = leaves_all_then c.args.hand.now.view c.nominal_size.new.hand.view c.may_stay.new.hand.view looks.leaves stay.leaves in
     let book = book_then c.args.hand.now c.nominal_size.new.hand c.may_stay.new.hand looks.book stay.book in
-    let finds = finds_length c.args.hand.now c.nominal_size.new.hand c.args.block c.in-Ok.len c.nominal_size.result c.in-Ok.is looks.cause looks.judged looks.framed looks.leaves looks.book in
-    (omega (arith, c.if-n-ge-LARGE.false), record {
-      len = c.in-Ok.len;
-      looked = c.may_stay.new.hand;
-      looks = looks_first c.args.hand.now c.nominal_size.new.hand c.may_stay.new.hand c.args.block c.in-Ok.len c.args.n c.may_stay.result c.requires.block finds stay.leaves stay.book stay.exact;
-      goes = goes_away c.args.hand.now c.nominal_size.new.hand c.may_stay.new.hand c.args.block c.in-Ok.len c.args.n c.may_stay.result c.requires.block finds stay.leaves stay.book stay.exact c.if-may_stay.false;
-      spends = c.in-Err-move_to_new.ensures.spends;
-    })
+    let finds = finds_length c.args.hand.now c.nominal_size.new.hand c.args.block c.in-Ok.len c.nominal_size.result c.in-Ok.is looks.cause looks.judged looks.framed looks.leaves looks.book in (
+      omega (arith, c.if-n-ge-LARGE.false),
+      record {
+        len = c.in-Ok.len;
+        looked = c.may_stay.new.hand;
+        looks = looks_first c.args.hand.now c.nominal_size.new.hand c.may_stay.new.hand c.args.block c.in-Ok.len c.args.n c.may_stay.result c.requires.block finds stay.leaves stay.book stay.exact;
+        goes = goes_away c.args.hand.now c.nominal_size.new.hand c.may_stay.new.hand c.args.block c.in-Ok.len c.args.n c.may_stay.result c.requires.block finds stay.leaves stay.book stay.exact c.if-may_stay.false;
+        spends = c.in-Err-move_to_new.ensures.spends;
+      },
+    )
 
 pub returns-in-Err-move_to_new-clause-apart : goal.returns-in-Err-move_to_new-clause-apart
 returns-in-Err-move_to_new-clause-apart g c =
