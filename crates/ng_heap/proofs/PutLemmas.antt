@@ -10,6 +10,7 @@ use Rattle.ng_view.specs.declared.view.View.{View}
 use Rattle.ng_space.specs.Leaving.{Learns, Leaves, LeavesAll, LiesStill, Stays}
 use Rattle.ng_space.proofs.LeavingFrames.{all_leaves, leaves_then}
 use Rattle.ng_frame.specs.Puts.{Cycles, IsNear, asked_for, put_at}
+use Rattle.ng_frame.proofs.Frames.{given_by_cycle}
 use Rattle.ng_frame.proofs.Tokens.{block_stays}
 use Rattle.ng_space.specs.Blocks.{BlockToken, HasBlock, HasFramed, OfSlot, Serves}
 use Rattle.ng_space.specs.Callers.{Caller}
@@ -19,7 +20,6 @@ use Rattle.ng_group.specs.States.{State}
 use Rattle.ng_heap.specs.Causes.{BuildsFor, HasClass}
 use Rattle.ng_heap.specs.Keeps.{IsFresh}
 use Rattle.ng_heap.specs.Making.{IsGivenNow, IsMade, IsPutBy}
-use Rattle.ng_frame.proofs.Frames.{given_by_cycle}
 use Rattle.ng_heap.proofs.SlotLemmas.{gained_leaves}
 
 -- ---- the slot lies where it did
@@ -69,11 +69,12 @@ pub put_class : (class : ℕ) (mid after : Caller) (slot : Token) → HasSlot mi
     → HasClass mid slot class → HasClass after slot class
 put_class class mid after slot has stays is = same_class class mid after slot has.held has.found stays is
 
-pub put_builds : {M P : Type 0} (counts : Ask → ℕ → Type 0) (before core : State M P) (n : ℕ) (mid after : Caller) (slot other : Token) → other ≡ slot
-    → HasSlot mid slot → Stays slot.meta slot.index mid.view after.view LiesStill
-    → BuildsFor counts before core n mid slot → BuildsFor counts before core n after other
-put_builds counts before core n mid after slot other same has stays builds =
-    subst (BuildsFor counts before core n after) (sym same) (same_builds counts before core n mid after slot has.held has.found stays builds)
+pub put_builds : {M P : Type 0} (counts : Ask → ℕ → Type 0) (before core : State M P) (asked : ℕ) (mid after : Caller) (slot : Token) (n align o : ℕ)
+    (block : BlockToken) → block ≡ put_at slot n align o → HasSlot mid slot → Stays slot.meta slot.index mid.view after.view LiesStill
+    → BuildsFor counts before core asked mid slot → BuildsFor counts before core asked after block.slot
+put_builds counts before core asked mid after slot n align o block is has stays builds =
+    subst (λ (b : BlockToken). BuildsFor counts before core asked after b.slot) (sym is)
+    (same_builds counts before core asked mid after slot has.held has.found stays builds)
 
 -- ---- the word that was found gives the block's place
 pub put_by : (came found : View) (after : Caller) (slot : Token) (n align counter o : ℕ) (block : BlockToken)

@@ -1,5 +1,5 @@
 use Rattle.std.proofs.Common.{sym, ap, subst}
-use Rattle.ng_frame.specs.Puts.{Cycles, IsNear}
+use Rattle.ng_frame.specs.Puts.{Cycles, IsNear, asked_for}
 use Rattle.ng_space.specs.Blocks.{BlockToken}
 use Rattle.ng_space.specs.Callers.{Caller}
 use Rattle.ng_space.specs.Leaving.{Leaves, LeavesAll}
@@ -9,7 +9,6 @@ use Rattle.ng_view.specs.declared.view.View.{View}
 use Rattle.ng_terms.specs.declared.refusal.AllocRefusal.TheVariants as refusal
 use Rattle.ng_heap.specs.Causes.{BuildsFor, HasRefusalCause}
 use Rattle.ng_heap.specs.Making.{RefusesNow}
-use Rattle.ng_frame.specs.Puts.{asked_for}
 use Rattle.ng_heap.proofs.PutLemmas.{asked_once, given_now, lies_then, made_now, put_builds, put_by, put_leaves, serves_asked, still_serves}
 use Rattle.ng_heap.proofs.SlotLemmas.{refused_leaves}
 use Rattle.ng_heap.proofs.StayLemmas.{fresh_slots}
@@ -37,7 +36,7 @@ returns-in-Ok-clause-builds g c =
     subst (λ k. BuildsFor (g.P.Rules.count_gives c.args.core.now.rules) c.args.core.now c.slot_for.new.core k c.put.new.hand c.put.result.slot)
     (asked_once c.args.n c.args.align c.in-Some.asked c.in-Some.ensures.asked)
     (put_builds (g.P.Rules.count_gives c.args.core.now.rules) c.args.core.now c.slot_for.new.core c.in-Some.asked c.slot_for.new.hand c.put.new.hand
-    slot c.put.result.slot (ap (λ (b : BlockToken). b.slot) c.put.ensures.block) c.in-Ok.ensures.has still c.in-Ok.ensures.builds)
+    slot c.args.n c.args.align c.next_offset-offset.result c.put.result c.put.ensures.block c.in-Ok.ensures.has still c.in-Ok.ensures.builds)
 
 pub put-requires-clause-near : goal.put-requires-clause-near
 put-requires-clause-near g c =
