@@ -1,4 +1,4 @@
-use Rattle.std.proofs.Common.{◌≡◌, ◌<◌, ◌∙◌, min, ap, inl, inr, refl, subst, sym, arith}
+use Rattle.std.proofs.Common.{◌<◌, ◌∙◌, min, inl, inr, refl, subst, arith}
 use Rattle.ng_frame.specs.Inspects.{gap_of}
 use Rattle.ng_frame.proofs.Tokens.{block_stays}
 use Rattle.ng_space.proofs.LeavingFrames.{leaves_all_then, leaves_entered}
