@@ -45,14 +45,14 @@ abbrev pub KeepsApart : BlockToken → View → View → Type 0
 KeepsApart block v w = (m i : ℕ) → IsOther block.slot m i → Stays m i v w Learns
 
 -- ---- by what
--- the rule has the block stay, which got its new length there
+-- the rule has the block stay, which got its new length there, after all was looked at
 pub record ResizesHere (before : Caller) (block : BlockToken) (n : ℕ) (after : Caller) : Type 0 where
   pub len : ℕ
   pub looked : Caller
   pub looks : LooksFirst before block len looked
   pub stays : OfSlot looked block.slot (MayStay n block)
-  pub bytes : Stays block.slot.meta block.slot.index before.view after.view (KeepsBytes block.at (block.at + n))
-  pub leaves : Leaves block.slot before.view after.view
+  pub bytes : Stays block.slot.meta block.slot.index looked.view after.view (KeepsBytes block.at (block.at + n))
+  pub leaves : Leaves block.slot looked.view after.view
 
 -- the rule doesn't, and it moved
 pub record ResizesByMove {S : Type 0} (makes : Caller → BlockToken → Caller → S → Type 0) (frees : S → Caller → View → Type 0)

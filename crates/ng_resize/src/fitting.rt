@@ -16,7 +16,8 @@ const LONE: u32 = 63;
 // The bytes of a run that its one block can't have: those of the group in front, and of the header cell behind.
 const FRAME: u64 = 20;
 
-/// Whether the rule has a block stay where it is with `n` bytes. A few words are loaded, and nothing is stored.
+/// Whether the rule has a block stay where it is with `n` bytes, and its slot's start tells its place. A few words are loaded,
+/// and nothing is stored.
 pub(crate) fn may_stay<N: Name>(
     space: &Space<N>,
     hand: &mut Hand<N>,

@@ -29,9 +29,10 @@ use ng_mapper::Mapper;
 use ng_policy::Rules;
 use ng_space::{Block, Hand, Name};
 
-/// Gives a block another length, under the core's lock. It stays where it stands exactly where the rule of [`StaysInPlace`]
-/// has it stay. Else a new block is made, the first bytes are copied to it, as many as both blocks have, and the old one is
-/// freed. What is done is entered, also where it is refused; a refused block comes back as it was.
+/// Gives a block another length, under the core's lock. It stays where it stands exactly where the rule for its class has it
+/// stay and the header cell at its slot's start tells its place, as that of each framed block does. Else a new block is made,
+/// the first bytes are copied to it, as many as both blocks have, and the old one is freed. Either way its align is the common
+/// one then. What is done is entered, also where it is refused; a refused block comes back as it was.
 ///
 /// It is refused in this order: a size from [`LARGE`] bytes on, a damaged frame, and no memory for a new block.
 pub fn realloc_in<N: Name, M: Mapper, P: Rules>(

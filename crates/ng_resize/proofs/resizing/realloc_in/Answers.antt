@@ -8,7 +8,7 @@ use Rattle.ng_resize.proofs.EntryLemmas.{not_large}
 use Rattle.ng_resize.proofs.FitLemmas.{stays_serves}
 use Rattle.ng_resize.proofs.LookLemmas.{book_then, finds_length, goes_away, looked_whole, looks_first, rule_goes, rule_stays, stays_here}
 use Rattle.ng_resize.proofs.MoveLemmas.{moves_as}
-use Rattle.ng_resize.proofs.OutcomeLemmas.{here_apart, here_bytes, here_frames, here_kept, here_leaves, here_others, here_stays, left_apart, left_frames, left_is, left_others, moved_apart, moved_first, moved_frames, moved_others, moved_resized, moved_rest, moved_stays, refused_stays}
+use Rattle.ng_resize.proofs.OutcomeLemmas.{here_apart, here_frames, here_kept, here_others, here_stays, left_apart, left_frames, left_is, left_others, moved_apart, moved_first, moved_frames, moved_others, moved_resized, moved_rest, moved_stays, refused_stays}
 use Rattle.ng_resize.proofs.VerdictLemmas.{damage_refuses, judged_within, known_none, known_some, named_refuses}
 use Rattle.ng_resize.proofs.resizing.realloc_in.Goals as goal
 
@@ -131,8 +131,8 @@ returns-then-may_stay-clause-cause g c =
         looked = c.may_stay.new.hand;
         looks = looks_first c.args.hand.now c.nominal_size.new.hand c.may_stay.new.hand c.args.block c.in-Ok.len c.args.n c.may_stay.result c.requires.block finds stay.leaves stay.book stay.exact;
         stays = stays_here c.args.hand.now c.nominal_size.new.hand c.may_stay.new.hand c.args.block c.in-Ok.len c.args.n c.may_stay.result c.requires.block finds stay.leaves stay.book stay.exact c.if-may_stay.true;
-        bytes = here_bytes c.args.hand.now c.may_stay.new.hand c.resize.new.hand c.args.block c.args.n c.requires.block book all c.resize.ensures.leaves c.resize.ensures.kept;
-        leaves = here_leaves c.args.hand.now c.may_stay.new.hand c.resize.new.hand c.args.block c.args.n c.requires.block book all c.resize.ensures.leaves;
+        bytes = c.resize.ensures.kept;
+        leaves = c.resize.ensures.leaves;
       },
     )
 
