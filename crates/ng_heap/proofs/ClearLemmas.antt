@@ -87,10 +87,10 @@ pub product_refuses : (count size bytes : ℕ) (before : Caller) (why : AllocRef
     → RefusesNow bytes 16 before why after → RefusesProduct count size before why after
 product_refuses count size bytes before (NoMemory excuse) after is small refuses =
     subst (λ k. RefusesNow k 16 before (NoMemory excuse) after) is refuses
-product_refuses count size bytes before TooLarge after is small refuses = absurd (small_request bytes small refuses)
+product_refuses count size bytes before TooLarge after is small refuses = absurd (small_request bytes small refuses.large)
 
 -- and so it is entered
 pub product_entry : (count size bytes : ℕ) (before : Caller) (why : AllocRefusal) (after : View) → bytes ≡ count * size → bytes < large
     → RefusesNow bytes 16 before why after → request_entry bytes 16 (Err why) ≡ calloc_entry count size (Err why)
 product_entry count size bytes before (NoMemory excuse) after is small refuses = ap (λ k. request_entry k 16 (Err (NoMemory excuse))) is
-product_entry count size bytes before TooLarge after is small refuses = absurd (small_request bytes small refuses)
+product_entry count size bytes before TooLarge after is small refuses = absurd (small_request bytes small refuses.large)

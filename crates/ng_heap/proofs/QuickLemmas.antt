@@ -25,7 +25,7 @@ use Rattle.ng_heap.specs.Causes.{HasClass, threshold}
 use Rattle.ng_heap.specs.Keeps.{IsFresh}
 use Rattle.ng_heap.specs.Making.{IsGivenNow, IsPutBy}
 use Rattle.ng_frame.specs.Puts.{put_at}
-use Rattle.ng_heap.specs.Trying.{GivesActive, LeavesQuickly, LoadsActive, OnlyReads, PopsActive}
+use Rattle.ng_heap.specs.Trying.{GivesActive, HasQuickCause, LeavesQuickly, LoadsActive, OnlyReads, PopsActive}
 use Rattle.ng_heap.specs.declared.quick.Quick.{Quick}
 use Rattle.ng_heap.specs.declared.quick.Quick.TheVariants.{Given, TooLarge, Large, Idle, Bare, Other, Lost}
 use Rattle.ng_heap.proofs.PutLemmas.{lies_then, put_class, still_serves}
@@ -164,6 +164,10 @@ active_given n old block after gives = (
 pub served_small : (n : ℕ) → n < threshold → IsTooLarge 1 n 16 → ⊥
 served_small n small is = ⊎_elim (λ (align : 2 ^ 35 ≤ 16). absurd (omega arith)) (λ (size : large + 16 ≤ 1 * n + max 16 16). absurd (omega arith)) is
 
+-- so it is of each request below that size
+pub below_large : (n : ℕ) → n < large → IsTooLarge 1 n 16 → ⊥
+below_large n small is = ⊎_elim (λ (align : 2 ^ 35 ≤ 16). absurd (omega arith)) (λ (size : large + 16 ≤ 1 * n + max 16 16). absurd (omega arith)) is
+
 -- neither a block came nor was the request too large: it is for the core
 abbrev pub IsPassed : {X : Type 0} → Quick X → Type 0
 IsPassed (Given block) = ⊥
@@ -191,3 +195,13 @@ passed_reads n old Idle after is leaves = leaves
 passed_reads n old Bare after is leaves = leaves
 passed_reads n old (Other tag) after is leaves = leaves
 passed_reads n old Lost after is leaves = leaves
+
+-- and it isn't too large
+pub passed_small : {X : Type 0} (n : ℕ) (old : Caller) (answer : Quick X) (after : Caller) → IsPassed answer → HasQuickCause n old answer after → IsTooLarge 1 n 16 → ⊥
+passed_small n old (Given block) after is cause large = absurd is
+passed_small n old TooLarge after is cause large = absurd is
+passed_small n old Large after is cause large = below_large n cause.0 large
+passed_small n old Idle after is cause large = served_small n cause.loads.small large
+passed_small n old Bare after is cause large = served_small n cause.loads.small large
+passed_small n old (Other tag) after is cause large = served_small n cause.loads.small large
+passed_small n old Lost after is cause large = served_small n cause.loads.small large

@@ -22,6 +22,7 @@ use Rattle.ng_space.proofs.LeavingFrames.{all_leaves, leaves_all_then, leaves_th
 use Rattle.ng_frame.proofs.Tokens.{block_stays, slot_stays}
 use Rattle.ng_group.specs.Hands.{AreSameSlots, GainsExcuse, GainsSlot, IsSameSlot, Learns}
 use Rattle.ng_group.proofs.HandSlotLemmas.{excused, learns_same, learns_then}
+use Rattle.ng_terms.specs.Heap.{IsTooLarge}
 use Rattle.ng_heap.specs.Making.{IsGivenNow, IsMade, RefusesNow}
 use Rattle.ng_heap.specs.Trying.{OnlyReads}
 use Rattle.ng_heap.proofs.SlotLemmas.{same_all, same_each}
@@ -156,10 +157,10 @@ module _ (old mid : Caller) (reads : OnlyReads old mid) where
   pub slots_after : (w : View) → KeepsSlots mid.view w → KeepsSlots old.view w
   slots_after w slots m i = stays_then _ _ _ m i old.view mid.view w (λ a t. (t, t)) (leaves_mid.all.slots m i) (slots m i)
 
-  pub refuses_after : (n align : ℕ) (why : AllocRefusal) (after : View) → RefusesNow n align mid why after → RefusesNow n align old why after
-  refuses_after n align (NoMemory excuse) after spends = record {
+  pub refuses_after : (n align : ℕ) (why : AllocRefusal) (after : View) → (IsTooLarge 1 n align → ⊥) → RefusesNow n align mid why after → RefusesNow n align old why after
+  refuses_after n align (NoMemory excuse) after small spends = record {
     came = spends.came;
     gains = excused_after excuse old.view mid.view spends.came reads.learns spends.gains;
     enters = subst (λ number. EntersNoMemory spends.came number n excuse after) reads.book.number spends.enters;
   }
-  refuses_after n align TooLarge after is = is
+  refuses_after n align TooLarge after small is = absurd (small is.large)

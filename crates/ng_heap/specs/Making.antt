@@ -8,6 +8,7 @@ use Rattle.ng_terms.specs.declared.refusal.AllocRefusal.{AllocRefusal}
 use Rattle.ng_terms.specs.declared.refusal.AllocRefusal.TheVariants as refusal
 use Rattle.ng_space.specs.Blocks.{BlockToken, HasBlock, HasFramed, OfSlot}
 use Rattle.ng_space.specs.Callers.{Caller}
+use Rattle.ng_space.specs.Entries.{Enters}
 use Rattle.ng_space.specs.Leaving.{Leaves}
 use Rattle.ng_space.specs.Passed.{EntersNoMemory}
 use Rattle.ng_view.specs.Frame.{IsGiven}
@@ -55,12 +56,17 @@ pub record SpendsExcuse (n : ℕ) (before : Caller) (excuse : ℕ) (after : View
   pub gains : GainsExcuse excuse before.view came
   pub enters : EntersNoMemory came before.number n excuse after
 
+-- the request is too large, and that was entered, with nothing else done
+pub record RefusesLarge (count size align : ℕ) (before : Caller) (after : View) : Type 0 where
+  pub large : IsTooLarge count size align
+  pub enters : Enters before.view before.number (TooLarge count size align) after
+
 -- no memory comes with the number of an excuse that came in this call; a request that is too large asks for none
 abbrev pub RefusesNow : ℕ → ℕ → Caller → AllocRefusal → View → Type 0
 RefusesNow n align before (refusal.NoMemory excuse) after = SpendsExcuse n before excuse after
-RefusesNow n align before refusal.TooLarge after = IsTooLarge 1 n align
+RefusesNow n align before refusal.TooLarge after = RefusesLarge 1 n align before after
 
 -- so it is of a request of so many elements of a size
 abbrev pub RefusesProduct : ℕ → ℕ → Caller → AllocRefusal → View → Type 0
 RefusesProduct count size before (refusal.NoMemory excuse) after = SpendsExcuse (count * size) before excuse after
-RefusesProduct count size before refusal.TooLarge after = IsTooLarge count size 16
+RefusesProduct count size before refusal.TooLarge after = RefusesLarge count size 16 before after

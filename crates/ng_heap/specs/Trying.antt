@@ -9,14 +9,14 @@ use Rattle.ng_space.specs.Blocks.{BlockToken}
 use Rattle.ng_space.specs.Callers.{Caller}
 use Rattle.ng_space.specs.FirstPage.{ReadsCounter}
 use Rattle.ng_space.specs.Leaving.{Entered, KeepsBook, Leaves, LeavesAll}
-use Rattle.ng_terms.specs.Heap.{IsTooLarge, large}
+use Rattle.ng_terms.specs.Heap.{large}
 use Rattle.ng_terms.specs.Histories.{refusal_entry}
 use Rattle.ng_terms.specs.declared.entry.Entry.TheVariants.{Give}
 use Rattle.ng_terms.specs.declared.refusal.AllocRefusal.TheVariants as refusal
 use Rattle.ng_view.specs.Steps.{loaded}
 use Rattle.ng_view.specs.declared.view.View.{View}
 use Rattle.ng_heap.specs.Causes.{HasClass, threshold}
-use Rattle.ng_heap.specs.Making.{IsPutBy}
+use Rattle.ng_heap.specs.Making.{IsPutBy, RefusesLarge}
 use Rattle.ng_heap.specs.declared.quick.Quick.{Quick}
 use Rattle.ng_heap.specs.declared.quick.Quick.TheVariants.{Given, TooLarge, Large, Idle, Bare, Other, Lost}
 
@@ -65,7 +65,7 @@ pub record GivesActive (n : ℕ) (before : Caller) (block : BlockToken) (after :
 -- what was found in this call accounts for the answer
 abbrev pub HasQuickCause : {X : Type 0} → ℕ → Caller → Quick X → Caller → Type 0
 HasQuickCause n before (Given block) after = GivesActive n before block after
-HasQuickCause n before TooLarge after = IsTooLarge 1 n 16
+HasQuickCause n before TooLarge after = RefusesLarge 1 n 16 before after.view
 HasQuickCause n before Large after = (n < large) × (threshold ≤ n) × (after ≡ before)
 HasQuickCause n before Idle after = FindsIdle n before.view after.view
 HasQuickCause n before Bare after = PopsActive {X = Unit {0}} n pop.Bare before.view after.view

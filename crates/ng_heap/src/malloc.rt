@@ -6,7 +6,7 @@ ghost use Rattle.ng_group.specs.Hands.{GainsExcuse, GainsSlot};
 ghost use Rattle.ng_group.specs.Steps.{GoesOn};
 ghost use Rattle.ng_heap.specs.Causes.{BuildsFor, HasRefusalCause};
 ghost use Rattle.ng_heap.specs.Keeps.{IsFresh};
-ghost use Rattle.ng_heap.specs.Making.{IsGivenNow, IsMade, RefusesNow, request_entry};
+ghost use Rattle.ng_heap.specs.Making.{IsGivenNow, IsMade, RefusesLarge, RefusesNow, request_entry};
 ghost use Rattle.ng_frame.specs.Puts.{asked_for};
 ghost use Rattle.ng_space.specs.Blocks.{OfSlot, Serves};
 ghost use Rattle.ng_space.specs.Passed.{EntersNoMemory, HasExcuse};
@@ -108,6 +108,7 @@ impl<N: Name> Heap<N> {
     pub(crate) fn enter_too_large(&self, hand: &mut Hand<N>, count: u64, size: u64, align: u64)
         requires spare { 1 ≤ hand.old.spare }
         requires large { IsTooLarge count size align }
+        ensures refuses { RefusesLarge count size align hand.old hand.new.view }
         ensures entered { Entered hand.old hand.new (TooLarge count size align) }
         ensures leaves { LeavesAll hand.old.view hand.new.view }
     {

@@ -2,13 +2,13 @@
 use Rattle.std.specs.Prelude.{◌≡◌, ℕ, Result, Ok, Err}
 use Rattle.ng_group.specs.States.{State}
 use Rattle.ng_heap.specs.Causes.{HasRefusalCause}
-use Rattle.ng_heap.specs.Making.{SpendsExcuse}
+use Rattle.ng_heap.specs.Making.{RefusesLarge, SpendsExcuse}
 use Rattle.ng_mapper.specs.declared.refusals.Refusals.{Refusals}
 use Rattle.ng_policy.specs.declared.ask.Ask.{Ask}
 use Rattle.ng_space.specs.Blocks.{BlockToken}
 use Rattle.ng_space.specs.Callers.{Caller}
 use Rattle.ng_space.specs.Entries.{Enters}
-use Rattle.ng_terms.specs.Heap.{IsAlignment, IsTooLarge}
+use Rattle.ng_terms.specs.Heap.{IsAlignment}
 use Rattle.ng_terms.specs.declared.entry.Entry.{Entry}
 use Rattle.ng_terms.specs.declared.entry.Entry.TheVariants as entry
 use Rattle.ng_terms.specs.declared.refusal.AllocRefusal.TheVariants as alloc
@@ -27,7 +27,7 @@ aligned_entry align n (Err (NoMemory excuse)) = entry.NoMemory n excuse
 -- the alignment comes first, and then the size; and no memory comes with the excuse of a map call that was refused in this call
 abbrev pub RefusesAligned : ℕ → ℕ → Caller → AlignRefusal → View → Type 0
 RefusesAligned align n before BadAlign after = (¬ IsAlignment align) × Enters before.view before.number (entry.BadAlign align) after
-RefusesAligned align n before TooLarge after = IsAlignment align × IsTooLarge 1 n align
+RefusesAligned align n before TooLarge after = IsAlignment align × RefusesLarge 1 n align before after
 RefusesAligned align n before (NoMemory excuse) after = IsAlignment align × SpendsExcuse n before excuse after
 
 -- what a refusal tells of the core: a map call was refused, or the core is as it was

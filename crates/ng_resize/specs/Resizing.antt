@@ -5,13 +5,13 @@ use Rattle.ng_frame.specs.declared.damage.Damage.TheVariants as damage
 use Rattle.ng_group.specs.Hands.{IsApart}
 use Rattle.ng_group.specs.States.{State}
 use Rattle.ng_heap.specs.Causes.{HasRefusalCause}
-use Rattle.ng_heap.specs.Making.{SpendsExcuse}
+use Rattle.ng_heap.specs.Making.{RefusesLarge, SpendsExcuse}
 use Rattle.ng_mapper.specs.declared.refusals.Refusals.{Refusals}
 use Rattle.ng_policy.specs.declared.ask.Ask.{Ask}
 use Rattle.ng_space.specs.Blocks.{BlockToken, HasBlock, HasFramed, OfSlot}
 use Rattle.ng_space.specs.Callers.{Caller}
 use Rattle.ng_space.specs.Leaving.{IsOther, Learns, Leaves, LeavesAll, Stays}
-use Rattle.ng_terms.specs.Heap.{IsTooLarge, large}
+use Rattle.ng_terms.specs.Heap.{large}
 use Rattle.ng_terms.specs.declared.refusal.AllocRefusal.TheVariants as alloc
 use Rattle.ng_view.specs.declared.view.View.{View}
 use Rattle.ng_resize.specs.Fitting.{MayStay}
@@ -73,7 +73,7 @@ pub record LacksMemory (before : Caller) (block : BlockToken) (n excuse : ℕ) (
 
 -- a resize was refused, in this order: the size is too large, the frame is damaged, or there is no memory for a new block
 abbrev pub RefusesResize : Caller → BlockToken → ℕ → ResizeRefusal → Caller → Type 0
-RefusesResize before block n TooLarge after = IsTooLarge 1 n 16
+RefusesResize before block n TooLarge after = RefusesLarge 1 n 16 before after.view
 RefusesResize before block n BadReserved after = (n < large) × Refuses before block damage.BadReserved after
 RefusesResize before block n Overrun after = (n < large) × Refuses before block damage.Overrun after
 RefusesResize before block n (NoMemory excuse) after = (n < large) × LacksMemory before block n excuse after

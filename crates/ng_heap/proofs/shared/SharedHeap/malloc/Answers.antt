@@ -1,6 +1,6 @@
 use Rattle.std.proofs.lemmas.Result.{IfErr-weaker, IfOk-weaker}
 use Rattle.ng_heap.specs.Trying.{OnlyReads}
-use Rattle.ng_heap.proofs.QuickLemmas.{active_given, passed, passed_reads, served_small}
+use Rattle.ng_heap.proofs.QuickLemmas.{active_given, passed, passed_reads, passed_small, served_small}
 use Rattle.ng_heap.proofs.ReadLemmas.{all_after, entered_after, given_after, leaves_after, made_after, refuses_after, slots_after}
 use Rattle.ng_heap.proofs.shared.SharedHeap.malloc.Given.{Over}
 use Rattle.ng_heap.proofs.shared.SharedHeap.malloc.Goals as goal
@@ -29,7 +29,8 @@ returns-in-Large-clause-given g c =
 
 pub returns-in-Large-clause-refuses : goal.returns-in-Large-clause-refuses
 returns-in-Large-clause-refuses g c =
-    IfErr-weaker c.malloc_in.result _ _ (λ why is. refuses_after c.args.hand.now c.malloc_unlocked.new.hand (reads g c.before.before) c.args.n 16 why c.malloc_in.new.hand.view is) c.malloc_in.ensures.refuses
+    IfErr-weaker c.malloc_in.result _ _ (λ why is. refuses_after c.args.hand.now c.malloc_unlocked.new.hand (reads g c.before.before) c.args.n 16 why c.malloc_in.new.hand.view
+    (passed_small c.args.n c.args.hand.now c.malloc_unlocked.result c.malloc_unlocked.new.hand (passed c.malloc_unlocked.result c.in-Large.is) c.malloc_unlocked.ensures.cause) is) c.malloc_in.ensures.refuses
 
 pub returns-in-Large-clause-entered : goal.returns-in-Large-clause-entered
 returns-in-Large-clause-entered g c = entered_after c.args.hand.now c.malloc_unlocked.new.hand (reads g c.before.before) _ c.malloc_in.new.hand c.malloc_in.ensures.entered
