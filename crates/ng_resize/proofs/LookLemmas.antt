@@ -8,12 +8,11 @@ use Rattle.ng_frame.proofs.Tokens.{block_stays, framed_stays}
 use Rattle.ng_space.specs.Blocks.{BlockToken, HasBlock, HasFramed, OfSlot}
 use Rattle.ng_space.specs.Callers.{Caller}
 use Rattle.ng_space.specs.Leaving.{KeepsBook, LeavesAll}
-use Rattle.ng_space.proofs.LeavingFrames.{leaves_all_then}
 use Rattle.ng_view.specs.Frame.{IsShift}
 use Rattle.ng_view.specs.declared.view.Held.{Held}
 use Rattle.ng_view.specs.declared.view.Place.{Place}
 use Rattle.ng_resize.specs.Fitting.{MayStay, StaysInPlace}
-use Rattle.ng_resize.specs.Looking.{FindsLength, LooksFirst}
+use Rattle.ng_resize.specs.Looking.{FindsLength}
 use Rattle.ng_resize.specs.Steps.{WasWhole}
 use Rattle.ng_resize.proofs.JudgedLemmas.{whole_now, whole_since}
 
@@ -54,36 +53,22 @@ framed_marked hand block f h found =
     let same : f.has.held ≡ h = cc in
     subst (λ (k : Held). IsShift k block.at) same f.framed.4.shift
 
-module _ (before read looked : Caller) (block : BlockToken) (len n : ℕ) (fits : Bool) (has : HasBlock before block)
-    (finds : FindsLength before block len read) (leaves : LeavesAll read.view looked.view) (book : KeepsBook read looked)
-    (exact : OfSlot looked block.slot (λ h. IsTrue fits ↔ MayStay n block h)) where
-  pub looks_first : LooksFirst before block len looked
-  looks_first = record { read = read; finds = finds; leaves = leaves; book = book }
+-- the frame that was found whole was so since
+pub looked_whole : (before read looked : Caller) (block : BlockToken) (len : ℕ) → HasBlock before block → FindsLength before block len read
+    → LeavesAll read.view looked.view → OfSlot looked block.slot (WasWhole block len)
+looked_whole before read looked block len has finds leaves =
+    let there : HasBlock read block = block_stays before read finds.book.number block (finds.leaves.all.slots block.slot.meta block.slot.index) has in
+    whole_since read looked block len there (leaves.all.slots block.slot.meta block.slot.index) (whole_now read block len finds.judged)
 
-  pub looked_leaves : LeavesAll before.view looked.view
-  looked_leaves = leaves_all_then before.view read.view looked.view finds.leaves leaves
-
-  pub looked_book : KeepsBook before looked
-  looked_book = book_then before read looked finds.book book
-
-  pub looked_has : HasBlock looked block
-  looked_has = block_stays before looked looked_book.number block (looked_leaves.all.slots block.slot.meta block.slot.index) has
-
-  pub looked_framed : HasFramed before block → HasFramed looked block
-  looked_framed f = framed_stays before looked looked_book.number block (looked_leaves.all.slots block.slot.meta block.slot.index) f
-
-  pub looked_whole : OfSlot looked block.slot (WasWhole block len)
-  looked_whole =
-      let there : HasBlock read block = block_stays before read finds.book.number block (finds.leaves.all.slots block.slot.meta block.slot.index) has in
-      whole_since read looked block len there (leaves.all.slots block.slot.meta block.slot.index) (whole_now read block len finds.judged)
-
+module _ (before looked : Caller) (block : BlockToken) (n : ℕ) (fits : Bool) (number : looked.number ≡ before.number)
+    (leaves : LeavesAll before.view looked.view) (exact : OfSlot looked block.slot (λ h. IsTrue fits ↔ MayStay n block h)) where
   -- ---- it stays
   pub stays_here : fits ≡ true → OfSlot looked block.slot (MayStay n block)
   stays_here is h found = (exact h found).0 is
 
   pub rule_stays : fits ≡ true → OfSlot before block.slot (StaysInPlace n block)
   rule_stays is h found =
-      let k = looked_leaves.all.slots block.slot.meta block.slot.index h found in
+      let k = leaves.all.slots block.slot.meta block.slot.index h found in
       rule_placed n block k.0 h (sym k.2.place) (stays_here is k.0 k.1).rule
 
   -- ---- it goes
@@ -92,5 +77,6 @@ module _ (before read looked : Caller) (block : BlockToken) (len n : ℕ) (fits 
 
   pub rule_goes : fits ≡ false → HasFramed before block → OfSlot before block.slot (λ h. ¬ StaysInPlace n block h)
   rule_goes is f h found rule =
-      let k = looked_leaves.all.slots block.slot.meta block.slot.index h found in
-      goes_away is k.0 k.1 (record { rule = rule_placed n block h k.0 k.2.place rule; marked = framed_marked looked block (looked_framed f) k.0 k.1 })
+      let k = leaves.all.slots block.slot.meta block.slot.index h found in
+      let framed : HasFramed looked block = framed_stays before looked number block (leaves.all.slots block.slot.meta block.slot.index) f in
+      goes_away is k.0 k.1 (record { rule = rule_placed n block h k.0 k.2.place rule; marked = framed_marked looked block framed k.0 k.1 })

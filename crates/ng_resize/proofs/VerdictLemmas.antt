@@ -1,11 +1,12 @@
 -- What the verdict on a block's frame tells of a resize.
 use Rattle.std.proofs.Common.{◌≡◌, ℕ, ◌-◌, ◌/◌, ◌%◌, ◌<◌, ◌≤◌, Bool, true, false, sym, ap, ◌∙◌, subst, arith}
 use Rattle.std.specs.Prelude.{◌&&◌, Result, Ok, Err, Option, Some, None, nat_lt, if◌then◌else◌}
+use Rattle.std.specs.Result.{result_err}
 use Rattle.ng_header.specs.Reading.{reserved_in}
 use Rattle.ng_header.specs.declared.reading.NominalFault.{NominalFault}
 use Rattle.ng_header.specs.declared.reading.NominalFault.TheVariants as nominal
 use Rattle.ng_frame.specs.Inspects.{Inspects, Refuses, number_of}
-use Rattle.ng_frame.specs.Judging.{IsJudged, IsKnownDamage, IsKnownVerdict, damage_by, damage_in, verdict_by, verdict_of}
+use Rattle.ng_frame.specs.Judging.{IsJudged, IsKnownDamage, IsKnownVerdict, damage_by, verdict_by, verdict_of}
 use Rattle.ng_frame.specs.declared.damage.Damage.{Damage}
 use Rattle.ng_frame.specs.declared.damage.Damage.TheVariants as damage
 use Rattle.ng_frame.proofs.Verdicts.{damage_is}
@@ -35,16 +36,9 @@ judged_within at gap len h judged =
     by_within gap judged.mark len (reserved_in (judged.header / 8192 % 8) (judged.word % 4294967296) judged.fifth gap) judged.told
 
 -- ---- what is known of the frame decides
-pub known_none : (before : Caller) (block : BlockToken) (len : ℕ) (answer : Result ℕ Damage) → answer ≡ Ok len
-    → IsKnownVerdict before block (verdict_of answer) → IsKnownDamage before block None
-known_none before block len answer is known verdict judged =
-    sym (ap damage_by (known verdict judged ∙ ap verdict_of is))
-
-pub known_some : (before : Caller) (block : BlockToken) (found : Damage) (why : ResizeRefusal) (answer : Result ℕ Damage) → answer ≡ Err found
-    → damage_named why ≡ Some found → IsKnownVerdict before block (verdict_of answer) → IsKnownDamage before block (damage_named why)
-known_some before block found why answer is names known verdict judged =
-    let told : ◌≡◌ {A = Option Damage} (Some found) (damage_by (verdict_of (Err found))) = damage_is (Err found) in
-    names ∙ told ∙ sym (ap damage_by (known verdict judged ∙ ap verdict_of is))
+pub known_answer : (before : Caller) (block : BlockToken) (answer : Result ℕ Damage) → IsKnownVerdict before block (verdict_of answer)
+    → IsKnownDamage before block (result_err answer)
+known_answer before block answer known verdict judged = damage_is answer ∙ sym (ap damage_by (known verdict judged))
 
 -- ---- a refusal that names a damage has its cause
 some_is : (a b : Damage) → ◌≡◌ {A = Option Damage} (Some a) (Some b) → a ≡ b
@@ -60,11 +54,10 @@ named_refuses before block n found TooLarge after names small refuses = absurd (
 named_refuses before block n found BadReserved after names small refuses = (small, subst (λ (d : Damage). Refuses before block d after) (sym (some_is damage.BadReserved found names)) refuses)
 named_refuses before block n found Overrun after names small refuses = (small, subst (λ (d : Damage). Refuses before block d after) (sym (some_is damage.Overrun found names)) refuses)
 
-pub damage_refuses : (before read after : Caller) (block : BlockToken) (found : Damage) (answer : Result ℕ Damage) → answer ≡ Err found
-    → Inspects before.view block (damage_in answer) read.view → read.number ≡ before.number
-    → Enters read.view read.number (Refused block.at (number_of found)) after.view → Refuses before block found after
-damage_refuses before read after block found answer is inspects number enters = record {
+pub damage_refuses : (before read after : Caller) (block : BlockToken) (found : Damage) → Inspects before.view block (Some found) read.view
+    → read.number ≡ before.number → Enters read.view read.number (Refused block.at (number_of found)) after.view → Refuses before block found after
+damage_refuses before read after block found inspects number enters = record {
   between = read.view;
-  inspects = subst (λ (r : Result ℕ Damage). Inspects before.view block (damage_in r) read.view) is inspects;
+  inspects = inspects;
   enters = subst (λ k. Enters read.view k (Refused block.at (number_of found)) after.view) number enters;
 }

@@ -3,6 +3,7 @@
 
 mod aligning;
 mod fitting;
+mod looking;
 mod moving;
 mod refusal;
 mod resizing;

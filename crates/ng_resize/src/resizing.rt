@@ -18,10 +18,10 @@ ghost use Rattle.ng_space.specs.Leaving.{Entered, KeepsRest, LeavesAll};
 ghost use Rattle.ng_terms.specs.Heap.{IsTooLarge, large};
 ghost use Rattle.ng_terms.specs.declared.entry.Entry.TheVariants.{Refused};
 
-use crate::fitting::may_stay;
+use crate::looking::look_first;
 use crate::moving::move_to_new;
 use crate::refusal::ResizeRefusal;
-use ng_frame::{Damage, nominal_size, resize};
+use ng_frame::{Damage, resize};
 use ng_group::Core;
 use ng_heap::Heap;
 use ng_history::{Entry, LARGE};
@@ -81,14 +81,14 @@ pub fn realloc_in<N: Name, M: Mapper, P: Rules>(
         heap.space().enter(hand, refused);
         return Err((block, ResizeRefusal::TooLarge));
     }
-    let old = match nominal_size(heap.space(), hand, &block) {
-        Ok(len) => len,
+    let found = match look_first(heap.space(), hand, &block, n) {
+        Ok(found) => found,
         Err(damage) => return Err(refuse_damaged(heap, hand, block, damage)),
     };
-    if may_stay(heap.space(), hand, &block, n) {
+    if found.stays {
         return Ok(resize(heap.space(), hand, block, n));
     }
-    match move_to_new(heap, core, hand, block, old.min(n), n) {
+    match move_to_new(heap, core, hand, block, found.len.min(n), n) {
         Ok(new) => Ok(new),
         Err((left, excuse)) => Err((left, ResizeRefusal::NoMemory { excuse })),
     }
