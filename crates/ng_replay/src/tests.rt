@@ -15,13 +15,19 @@ use ng_mtrace::{Line, Log, Logs};
 use ng_plan::plan;
 use ng_policy::{Ask, Kept, Policy, Rules, Spare, musl_count, musl_keep};
 use ng_space::{Blank, Book, Name, Start};
-use ng_terms::{Entry, Items, Plan, Reply};
+use ng_terms::{Entry, Items, Mode, Plan, Reply};
 use std::alloc::Global;
 use std::marker::Brand;
 use std::process::Abort;
 use std::test::Fail;
 
 const PAGES: u32 = 4096;
+
+// Blocks of the common align, whose bytes aren't set.
+pub(crate) const PLAIN: Mode = Mode {
+    align: None,
+    zero: false,
+};
 
 // A log of these lines.
 pub(crate) fn log_of(alloc: Global, lines: &[Line]) -> Result<Log, Fail>
@@ -71,8 +77,8 @@ fn rooms(alloc: Global, plan: &Plan) -> Result<Vec<u64>, Fail>
 }
 
 // The memory of a heap with a hand for each log and of its core, and a mapper that refuses no call.
-pub(crate) fn parts(alloc: Global, plan: &Plan) -> Result<(Blank, Tables, FirstFit), Fail>
-    ensures { IfOk result (λ made. AreParts plan.now made.0 made.1 made.2) }
+pub(crate) fn parts(alloc: Global, plan: &Plan, mode: Mode) -> Result<(Blank, Tables, FirstFit), Fail>
+    ensures { IfOk result (λ made. AreParts plan.now mode made.0 made.1 made.2) }
 {
     let start = Start {
         pages: u64::from(PAGES),
@@ -80,7 +86,7 @@ pub(crate) fn parts(alloc: Global, plan: &Plan) -> Result<(Blank, Tables, FirstF
         upper: 0x100_0000,
         secret: 0x0123_4567_89ab_cdef,
         refusals: 0,
-        cap: cap_of(plan),
+        cap: cap_of(plan, mode),
     };
     let rooms = rooms(alloc, plan)?;
     let blank = Blank::new(alloc, start, rooms.as_slice())?;
@@ -106,6 +112,7 @@ fn replayed<N: Name, P: Rules + Drop, R: Abort>(
     rt: &R,
     alloc: Global,
     plan: &Plan,
+    mode: Mode,
     blank: Blank,
     tables: Tables,
     mapper: FirstFit,
@@ -115,7 +122,7 @@ fn replayed<N: Name, P: Rules + Drop, R: Abort>(
     requires start { blank.start ≡ N.facts.start }
     requires hands { length blank.rooms ≡ N.facts.hands }
     requires most { N.facts.most ≡ 0 }
-    requires parts { AreParts plan.now blank tables mapper }
+    requires parts { AreParts plan.now mode blank tables mapper }
     requires good { P.good rules }
     requires sound { IsSound plan.now }
 {
@@ -124,7 +131,7 @@ fn replayed<N: Name, P: Rules + Drop, R: Abort>(
             let Ok(room) = Room::for_plan(alloc, plan) else {
                 panic!(rt; "no memory for the replies")
             };
-            let replies = serial(&heap, &mut core, &mut hands, plan, room);
+            let replies = serial(&heap, &mut core, &mut hands, plan, mode, room);
             let (_image, books, _mapper) = heap.close(core, hands);
             (replies, books)
         }
@@ -152,9 +159,11 @@ fn a_log_moves_a_block(rt: HostRuntime) -> Result<(), Fail> {
         Line::End { name: 0x10 },
     ];
     let plan = plan_of(alloc, vec![in alloc; log_of(alloc, &lines)?]?)?;
-    let (blank, tables, mapper) = parts(alloc, &plan)?;
+    let (blank, tables, mapper) = parts(alloc, &plan, PLAIN)?;
     let rules = Policy::new(count, keep);
-    let (replies, books) = replayed::<Brand, _, _>(&rt, alloc, &plan, blank, tables, mapper, rules);
+    let (replies, books) = replayed::<Brand, _, _>(
+        &rt, alloc, &plan, PLAIN, blank, tables, mapper, rules,
+    );
     let wanted = [
         Reply::Given { at: 0x2040 },
         Reply::Given { at: 0x2060 },
@@ -201,9 +210,11 @@ fn a_moved_block_goes_to_another_log(rt: HostRuntime) -> Result<(), Fail> {
     ];
     let logs = vec![in alloc; log_of(alloc, &first)?, log_of(alloc, &second)?]?;
     let plan = plan_of(alloc, logs)?;
-    let (blank, tables, mapper) = parts(alloc, &plan)?;
+    let (blank, tables, mapper) = parts(alloc, &plan, PLAIN)?;
     let rules = Policy::new(count, keep);
-    let (replies, books) = replayed::<Brand, _, _>(&rt, alloc, &plan, blank, tables, mapper, rules);
+    let (replies, books) = replayed::<Brand, _, _>(
+        &rt, alloc, &plan, PLAIN, blank, tables, mapper, rules,
+    );
     let moved = Reply::Moved {
         old: 0x2040,
         at: 0x2060,
