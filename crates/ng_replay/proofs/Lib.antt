@@ -18,3 +18,4 @@ pub mod CrewLemmas
 pub mod MailLemmas
 pub mod EndLemmas
 pub mod CapLemmas
+pub mod MakeLemmas

@@ -1,8 +1,9 @@
 -- The largest request of some ops.
-use Rattle.std.specs.Prelude.{◌≡◌, ◌⊎◌, ℕ, ◌+◌, ◌-◌, ◌<◌, ◌≤◌, Contains, List, max}
+use Rattle.std.specs.Prelude.{◌≡◌, ◌⊎◌, ℕ, ◌<◌, ◌≤◌, Contains, List}
 use Rattle.ng_terms.specs.declared.plan.Op.{Op}
 use Rattle.ng_terms.specs.declared.reply.Mode.{Mode}
 use Rattle.ng_terms.specs.Accounts.{Asks}
+use Rattle.ng_replay.specs.Stub.{asked_for}
 use Rattle.ng_terms.specs.Calls.{align_of}
 use Rattle.ng_terms.specs.Heap.{large}
 
@@ -12,7 +13,7 @@ IsCapped mode cap op = (bytes : ℕ) → Asks mode op bytes → bytes < large �
 
 -- so it is of a make of a block of the size
 abbrev pub IsSizeCapped : Mode → ℕ → ℕ → Type 0
-IsSizeCapped mode cap size = (bytes : ℕ) → (bytes ≡ size) ⊎ (bytes ≡ size + max (align_of mode) 16 - 16) → bytes < large → bytes ≤ cap
+IsSizeCapped mode cap size = (bytes : ℕ) → (bytes ≡ size) ⊎ (bytes ≡ asked_for size (align_of mode)) → bytes < large → bytes ≤ cap
 
 -- the most bytes that an op asks for under the mode, but for those that are too many; or 0
 pub record IsCapIn (mode : Mode) (ops : List Op) (cap : ℕ) : Type 0 where

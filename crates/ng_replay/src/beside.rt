@@ -12,8 +12,8 @@ ghost use Rattle.ng_terms.specs.declared.entry.Entry.TheVariants.{Take};
 
 use crate::make::{aligned_outcome, outcome};
 use crate::op::{leave, reply_to_make};
-use crate::stub::{aligned_alloc, calloc};
-use ng_heap::{AllocRefusal, SharedHeap};
+use crate::stub::{ResizeRefusal, aligned_alloc, calloc, realloc};
+use ng_heap::SharedHeap;
 use ng_mapper::Mapper;
 use ng_policy::Rules;
 use ng_space::{Block, Hand, Name};
@@ -53,7 +53,8 @@ pub fn do_op<N: Name, M: Mapper, P: Rules, R: Wait>(
             to: _,
         } => {
             leave(hand, source);
-            make_anew(rt, heap, hand, size, mode)
+            let (made, block) = make(rt, heap, hand, size, mode);
+            (reply_to_make(made), block)
         }
         Op::Free { name: _, from } => (free(rt, heap, hand, from, source), None),
         Op::Move {
@@ -100,22 +101,6 @@ fn make<N: Name, M: Mapper, P: Rules, R: Wait>(
             }
         }
     }
-}
-
-/// Makes a block, and tells the reply to the make.
-fn make_anew<N: Name, M: Mapper, P: Rules, R: Wait>(
-    rt: &R,
-    heap: &SharedHeap<N, M, P>,
-    hand: &mut Hand<N>,
-    size: u64,
-    mode: Mode,
-) -> (Reply, Option<Block<N>>)
-    requires spare { 1 ≤ hand.old.spare }
-    requires cap { IsSizeCapped mode N.facts.start.cap size }
-    ensures { (made : Made) × (result.0 ≡ reply_of made) × Makes mode size hand.old made result.1 hand.new }
-{
-    let (made, block) = make(rt, heap, hand, size, mode);
-    (reply_to_make(made), block)
 }
 
 /// Frees the source, where there is one.
@@ -173,7 +158,7 @@ fn free_framed<N: Name, M: Mapper, P: Rules, R: Wait>(
     }
 }
 
-/// Moves a block to a new one of a size. Where the new one is refused the old one stands.
+/// Gives a block another length, where it stands or by a move. Where that is refused it stands as it was.
 fn move_from<N: Name, M: Mapper, P: Rules, R: Wait>(
     rt: &R,
     heap: &SharedHeap<N, M, P>,
@@ -197,22 +182,22 @@ fn move_from<N: Name, M: Mapper, P: Rules, R: Wait>(
     ensures spare { hand.old.spare ≤ hand.new.spare + 2 }
 {
     let at = old.at();
-    match heap.malloc(rt, hand, size) {
+    match realloc(heap, rt, hand, old, size) {
         Ok(block) => {
             let reply = Reply::Moved {
                 old: at,
                 at: block.at(),
             };
-            free_framed(rt, heap, hand, old);
             (reply, Some(block))
         }
-        Err(AllocRefusal::NoMemory { excuse }) => {
+        Err((old, ResizeRefusal::NoMemory { excuse })) => {
             let reply = Reply::NoMemory {
                 old: Some(at),
                 excuse,
             };
             (reply, Some(old))
         }
-        Err(AllocRefusal::TooLarge) => (Reply::TooLarge { old: Some(at) }, Some(old)),
+        Err((old, ResizeRefusal::TooLarge)) => (Reply::TooLarge { old: Some(at) }, Some(old)),
+        Err((_, ResizeRefusal::BadReserved | ResizeRefusal::Overrun)) => unreachable!(),
     }
 }

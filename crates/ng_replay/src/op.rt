@@ -10,8 +10,9 @@ ghost use Rattle.ng_terms.specs.Heap.{large};
 ghost use Rattle.ng_terms.specs.declared.entry.Entry.TheVariants.{Take};
 
 use crate::make::make;
+use crate::stub::{ResizeRefusal, realloc_in};
 use ng_group::Core;
-use ng_heap::{AllocRefusal, Heap};
+use ng_heap::Heap;
 use ng_mapper::Mapper;
 use ng_policy::Rules;
 use ng_space::{Block, Hand, Name};
@@ -50,7 +51,8 @@ pub fn do_op<N: Name, M: Mapper, P: Rules>(
             to: _,
         } => {
             leave(hand, source);
-            make_anew(heap, core, hand, size, mode)
+            let (made, block) = make(heap, core, hand, size, mode);
+            (reply_to_make(made), block)
         }
         Op::Free { name: _, from } => (free(heap, core, hand, from, source), None),
         Op::Move {
@@ -82,22 +84,6 @@ pub(crate) fn leave<N: Name>(hand: &mut Hand<N>, source: Option<Block<N>>)
     if let Some(block) = source {
         hand.leave(block);
     }
-}
-
-/// Makes a block, and tells the reply to the make.
-fn make_anew<N: Name, M: Mapper, P: Rules>(
-    heap: &Heap<N>,
-    core: &mut Core<N, M, P>,
-    hand: &mut Hand<N>,
-    size: u64,
-    mode: Mode,
-) -> (Reply, Option<Block<N>>)
-    requires spare { 1 ≤ hand.old.spare }
-    requires cap { IsSizeCapped mode N.facts.start.cap size }
-    ensures { (made : Made) × (result.0 ≡ reply_of made) × Makes mode size hand.old made result.1 hand.new }
-{
-    let (made, block) = make(heap, core, hand, size, mode);
-    (reply_to_make(made), block)
 }
 
 /// The reply to a make with this outcome.
@@ -167,7 +153,7 @@ fn free_framed<N: Name, M: Mapper, P: Rules>(
     }
 }
 
-/// Moves a block to a new one of a size. Where the new one is refused the old one stands.
+/// Gives a block another length, where it stands or by a move. Where that is refused it stands as it was.
 fn move_from<N: Name, M: Mapper, P: Rules>(
     heap: &Heap<N>,
     core: &mut Core<N, M, P>,
@@ -191,22 +177,22 @@ fn move_from<N: Name, M: Mapper, P: Rules>(
     ensures spare { hand.old.spare ≤ hand.new.spare + 2 }
 {
     let at = old.at();
-    match heap.malloc_in(core, hand, size) {
+    match realloc_in(heap, core, hand, old, size) {
         Ok(block) => {
             let reply = Reply::Moved {
                 old: at,
                 at: block.at(),
             };
-            free_framed(heap, core, hand, old);
             (reply, Some(block))
         }
-        Err(AllocRefusal::NoMemory { excuse }) => {
+        Err((old, ResizeRefusal::NoMemory { excuse })) => {
             let reply = Reply::NoMemory {
                 old: Some(at),
                 excuse,
             };
             (reply, Some(old))
         }
-        Err(AllocRefusal::TooLarge) => (Reply::TooLarge { old: Some(at) }, Some(old)),
+        Err((old, ResizeRefusal::TooLarge)) => (Reply::TooLarge { old: Some(at) }, Some(old)),
+        Err((_, ResizeRefusal::BadReserved | ResizeRefusal::Overrun)) => unreachable!(),
     }
 }
