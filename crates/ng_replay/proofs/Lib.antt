@@ -19,3 +19,4 @@ pub mod MailLemmas
 pub mod EndLemmas
 pub mod CapLemmas
 pub mod MakeLemmas
+pub mod ResizeLemmas

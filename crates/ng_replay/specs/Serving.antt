@@ -12,10 +12,14 @@ use Rattle.ng_terms.specs.declared.refusal.AllocRefusal.TheVariants as refusal
 use Rattle.ng_terms.specs.declared.reply.Made.{Made}
 use Rattle.ng_terms.specs.declared.reply.Made.TheVariants as made
 use Rattle.ng_terms.specs.declared.reply.Mode.{Mode}
+use Rattle.ng_terms.specs.declared.reply.Reply.{Reply}
+use Rattle.ng_terms.specs.declared.reply.Reply.TheVariants as reply
 use Rattle.ng_terms.specs.Accounts.{Counts, IsAsked}
 use Rattle.ng_replay.specs.declared.stub.AlignRefusal.{AlignRefusal}
 use Rattle.ng_replay.specs.declared.stub.AlignRefusal.TheVariants as align_refusal
-use Rattle.ng_terms.specs.Calls.{FitsMade, calls_of_make, reply_of, standing}
+use Rattle.ng_replay.specs.declared.stub.ResizeRefusal.{ResizeRefusal}
+use Rattle.ng_replay.specs.declared.stub.ResizeRefusal.TheVariants as resize_refusal
+use Rattle.ng_terms.specs.Calls.{FitsMade, FitsMoved, calls_for, calls_of_make, reply_of, standing}
 
 -- the most bytes that an op of the plan asks for under the mode, but for those that are too many; or 0
 pub record IsCapOf (cap : ℕ) (plan : Plan) (mode : Mode) : Type 0 where
@@ -42,6 +46,19 @@ abbrev pub block_of : {E : Type 0} → Result BlockToken E → Option BlockToken
 block_of (Ok block) = Some block
 block_of (Err why) = None
 
+-- what a resize of the block at an address came to as a reply
+abbrev pub IsReplyTo : ℕ → Result BlockToken (BlockToken × ResizeRefusal) → Reply → Type 0
+IsReplyTo at (Ok new) answer = answer ≡ reply.Moved at new.at
+IsReplyTo at (Err (left, resize_refusal.NoMemory excuse)) answer = answer ≡ reply.NoMemory (Some at) excuse
+IsReplyTo at (Err (left, resize_refusal.TooLarge)) answer = answer ≡ reply.TooLarge (Some at)
+IsReplyTo at (Err (left, resize_refusal.BadReserved)) answer = ⊥
+IsReplyTo at (Err (left, resize_refusal.Overrun)) answer = ⊥
+
+-- and the block that it leaves
+abbrev pub left_of : Result BlockToken (BlockToken × ResizeRefusal) → BlockToken
+left_of (Ok new) = new
+left_of (Err refused) = refused.0
+
 -- the address of a block, if there is one
 abbrev pub at_of : Option BlockToken → Option ℕ
 at_of None = None
@@ -64,3 +81,16 @@ pub record Makes (mode : Mode) (size : ℕ) (before : Caller) (made : Made) (blo
   pub frames : KeepsFrames before after
   pub rest : KeepsRest before.view after.view
   pub spare : after.spare + 1 ≡ before.spare
+
+-- a block of the hand got another length, or stands as it was: the reply fits and stands for its calls, the block is framed, and
+-- each framed block in another slot is so still, in a slot apart from that of the block
+pub record Resizes (size : ℕ) (before : Caller) (old : BlockToken) (answer : Reply) (block : Option BlockToken) (after : Caller) : Type 0 where
+  pub fits : FitsMoved old.at size answer
+  pub entries : (mode : Mode) → after.entries ≡ before.entries ++ calls_for mode size answer
+  pub stands : at_of block ≡ standing answer
+  pub framed : IfSome block (HasFramed after)
+  pub others : (other : BlockToken) → IsApart other.slot old.slot → HasFramed before other → HasFramed after other
+  pub apart : (other : BlockToken) → IsApart other.slot old.slot → HasFramed before other → IsApartFrom block other
+  pub frames : KeepsFrames before after
+  pub rest : KeepsRest before.view after.view
+  pub spare : before.spare ≤ after.spare + 2

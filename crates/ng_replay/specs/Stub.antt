@@ -1,10 +1,12 @@
 -- What calls tell that stand elsewhere.
-use Rattle.std.specs.Prelude.{◌≡◌, ◌≢◌, ℕ, ◌+◌, ◌-◌, ◌*◌, ◌==◌, ◌++◌, if◌then◌else◌, max, List, ◌∷◌, [], length, Result, Ok, Err, Option, Some, None}
+use Rattle.std.specs.Prelude.{◌≡◌, ◌≢◌, ◌<◌, ℕ, ◌+◌, ◌-◌, ◌*◌, ◌==◌, ◌++◌, if◌then◌else◌, max, List, ◌∷◌, [], length, Result, Ok, Err, Option, Some, None}
 use Rattle.ng_group.specs.Hands.{IsApart}
 use Rattle.ng_heap.specs.Keeps.{IsFresh}
 use Rattle.ng_space.specs.Blocks.{BlockToken, HasBlock, HasFramed}
 use Rattle.ng_space.specs.Callers.{Caller}
 use Rattle.ng_space.specs.Leaving.{LeavesAll}
+use Rattle.ng_view.specs.Frame.{KnowsByte}
+use Rattle.ng_view.specs.declared.view.Held.{Held}
 use Rattle.ng_terms.specs.declared.entry.Entry.{Entry}
 use Rattle.ng_terms.specs.declared.entry.Entry.TheVariants as entry
 use Rattle.ng_terms.specs.declared.refusal.AllocRefusal.{AllocRefusal}
@@ -32,6 +34,9 @@ aligned_entry align n (Ok block) = entry.Give n align block.at
 aligned_entry align n (Err align_refusal.BadAlign) = entry.BadAlign align
 aligned_entry align n (Err align_refusal.TooLarge) = entry.TooLarge 1 n align
 aligned_entry align n (Err (align_refusal.NoMemory excuse)) = entry.NoMemory n excuse
+
+abbrev pub AreZero : ℕ → ℕ → Held → Type 0
+AreZero a count h = (i : ℕ) → i < count → KnowsByte (a + i) 0 h
 
 pub record IsMade (n align : ℕ) (before : Caller) (block : BlockToken) (after : Caller) : Type 0 where
   pub len : block.len ≡ n

@@ -1,18 +1,18 @@
 // An op of a log beside others, over a heap that threads share.
-ghost use Rattle.std.specs.Prelude.{◌≡◌, ◌+◌, ◌<◌, ◌≤◌, ◌++◌, ◌∷◌, [], IfSome, None};
+ghost use Rattle.std.specs.Prelude.{◌≡◌, ◌+◌, ◌<◌, ◌≤◌, ◌++◌, ◌∷◌, [], IfSome, IsTrue, None};
 ghost use Rattle.ng_space.specs.Leaving.{KeepsOthers, KeepsRest};
-ghost use Rattle.ng_group.specs.Hands.{IsApart};
 ghost use Rattle.ng_heap.specs.Keeps.{KeepsFrames};
 ghost use Rattle.ng_replay.specs.Caps.{IsCapped, IsSizeCapped};
-ghost use Rattle.ng_replay.specs.Serving.{IsApartFrom, Makes, at_of};
-ghost use Rattle.ng_space.specs.Blocks.{BlockToken, HasFramed};
-ghost use Rattle.ng_terms.specs.Calls.{FitsMoved, FitsOp, calls_for, calls_of, reply_of, reply_of_free, standing};
+ghost use Rattle.ng_replay.specs.Serving.{IsApartFrom, Makes, Resizes, at_of};
+ghost use Rattle.ng_replay.specs.Stub.{AreZero};
+ghost use Rattle.ng_space.specs.Blocks.{BlockToken, HasFramed, OfSlot};
+ghost use Rattle.ng_terms.specs.Calls.{FitsOp, calls_for, calls_of, reply_of, reply_of_free, standing};
 ghost use Rattle.ng_terms.specs.Heap.{large};
 ghost use Rattle.ng_terms.specs.declared.entry.Entry.TheVariants.{Take};
 
-use crate::make::{aligned_outcome, outcome};
+use crate::make::{aligned_outcome, outcome, resized_outcome};
 use crate::op::{leave, reply_to_make};
-use crate::stub::{ResizeRefusal, aligned_alloc, calloc, realloc};
+use crate::stub::{aligned_alloc, calloc, realloc};
 use ng_heap::SharedHeap;
 use ng_mapper::Mapper;
 use ng_policy::Rules;
@@ -89,7 +89,8 @@ fn make<N: Name, M: Mapper, P: Rules, R: Wait>(
 ) -> (Made, Option<Block<N>>)
     requires spare { 1 ≤ hand.old.spare }
     requires cap { IsSizeCapped mode N.facts.start.cap size }
-    ensures { Makes mode size hand.old result.0 result.1 hand.new }
+    ensures made { Makes mode size hand.old result.0 result.1 hand.new }
+    ensures zeroed { mode.align ≡ None → IsTrue mode.zero → IfSome result.1 (λ block. OfSlot hand.new block.slot (AreZero block.at block.len)) }
 {
     match mode.align {
         Some(align) => aligned_outcome(aligned_alloc(heap, rt, hand, align, size)),
@@ -169,35 +170,8 @@ fn move_from<N: Name, M: Mapper, P: Rules, R: Wait>(
     requires room { 2 ≤ hand.old.spare }
     requires cap { size < large → size ≤ N.facts.start.cap }
     requires framed { HasFramed hand.old old }
-    ensures fits { FitsMoved old.at size result.0 }
-    ensures entries { (mode : Mode) → hand.new.entries ≡ hand.old.entries ++ calls_for mode size result.0 }
-    ensures stands { at_of result.1 ≡ standing result.0 }
-    ensures framed { IfSome result.1 (HasFramed hand.new) }
-
-    ensures others { (other : BlockToken) → IsApart other.slot old.slot → HasFramed hand.old other → HasFramed hand.new other }
-    ensures apart { (other : BlockToken) → IsApart other.slot old.slot → HasFramed hand.old other → IsApartFrom result.1 other }
-
-    ensures frames { KeepsFrames hand.old hand.new }
-    ensures rest { KeepsRest hand.old.view hand.new.view }
-    ensures spare { hand.old.spare ≤ hand.new.spare + 2 }
+    ensures { Resizes size hand.old old result.0 result.1 hand.new }
 {
     let at = old.at();
-    match realloc(heap, rt, hand, old, size) {
-        Ok(block) => {
-            let reply = Reply::Moved {
-                old: at,
-                at: block.at(),
-            };
-            (reply, Some(block))
-        }
-        Err((old, ResizeRefusal::NoMemory { excuse })) => {
-            let reply = Reply::NoMemory {
-                old: Some(at),
-                excuse,
-            };
-            (reply, Some(old))
-        }
-        Err((old, ResizeRefusal::TooLarge)) => (Reply::TooLarge { old: Some(at) }, Some(old)),
-        Err((_, ResizeRefusal::BadReserved | ResizeRefusal::Overrun)) => unreachable!(),
-    }
+    resized_outcome(at, realloc(heap, rt, hand, old, size))
 }

@@ -1,15 +1,17 @@
-ghost use Rattle.std.specs.Prelude.{◌≡◌, ◌≤◌};
+ghost use Rattle.std.specs.Prelude.{◌≡◌, ◌≤◌, IfSome, IsTrue, None, Some};
 ghost use Rattle.ng_replay.specs.Caps.{IsSizeCapped};
-ghost use Rattle.ng_replay.specs.Serving.{Makes, block_of, made_of, made_of_aligned};
+ghost use Rattle.ng_replay.specs.Serving.{IsReplyTo, Makes, block_of, left_of, made_of, made_of_aligned};
+ghost use Rattle.ng_replay.specs.Stub.{AreZero, damage_told};
+ghost use Rattle.ng_space.specs.Blocks.{OfSlot};
 ghost use Rattle.ng_terms.specs.Calls.{align_of};
 
-use crate::stub::{AlignRefusal, aligned_in, calloc_in};
+use crate::stub::{AlignRefusal, ResizeRefusal, aligned_in, calloc_in};
 use ng_group::Core;
 use ng_heap::{AllocRefusal, Heap};
 use ng_mapper::Mapper;
 use ng_policy::Rules;
 use ng_space::{Block, Hand, Name};
-use ng_terms::{Made, Mode};
+use ng_terms::{Made, Mode, Reply};
 
 /// Makes a block of a size for a hand under the mode, and tells what came of it.
 pub fn make<N: Name, M: Mapper, P: Rules>(
@@ -21,7 +23,8 @@ pub fn make<N: Name, M: Mapper, P: Rules>(
 ) -> (Made, Option<Block<N>>)
     requires spare { 1 ≤ hand.old.spare }
     requires cap { IsSizeCapped mode N.facts.start.cap size }
-    ensures { Makes mode size hand.old result.0 result.1 hand.new }
+    ensures made { Makes mode size hand.old result.0 result.1 hand.new }
+    ensures zeroed { mode.align ≡ None → IsTrue mode.zero → IfSome result.1 (λ block. OfSlot hand.new block.slot (AreZero block.at block.len)) }
 {
     match mode.align {
         Some(align) => aligned_outcome(aligned_in(heap, core, hand, align, size)),
@@ -61,6 +64,32 @@ pub(crate) fn aligned_outcome<N: Name>(
         Err(AlignRefusal::NoMemory { excuse }) => (Made::NoMemory { excuse }, None),
         Err(AlignRefusal::TooLarge) => (Made::TooLarge, None),
         Err(AlignRefusal::BadAlign) => (Made::BadAlign, None),
+    }
+}
+
+/// The reply to a resize of the framed block at an address, and the block that stands then.
+pub(crate) fn resized_outcome<N: Name>(
+    at: u64,
+    given: Result<Block<N>, (Block<N>, ResizeRefusal)>,
+) -> (Reply, Option<Block<N>>)
+    requires whole { damage_told given ≡ None }
+    ensures reply { IsReplyTo at given result.0 }
+    ensures block { result.1 ≡ Some (left_of given) }
+{
+    match given {
+        Ok(block) => {
+            let reply = Reply::Moved {
+                old: at,
+                at: block.at(),
+            };
+            (reply, Some(block))
+        }
+        Err((block, ResizeRefusal::NoMemory { excuse })) => {
+            let old = Some(at);
+            (Reply::NoMemory { old, excuse }, Some(block))
+        }
+        Err((block, ResizeRefusal::TooLarge)) => (Reply::TooLarge { old: Some(at) }, Some(block)),
+        Err((_, ResizeRefusal::BadReserved | ResizeRefusal::Overrun)) => unreachable!(),
     }
 }
 

@@ -1,16 +1,15 @@
 ghost use Rattle.std.specs.Prelude.{◌≡◌, ◌+◌, ◌<◌, ◌≤◌, ◌++◌, ◌∷◌, [], IfSome, None};
 ghost use Rattle.ng_space.specs.Leaving.{KeepsOthers, KeepsRest};
-ghost use Rattle.ng_group.specs.Hands.{IsApart};
 ghost use Rattle.ng_heap.specs.Keeps.{KeepsFrames};
 ghost use Rattle.ng_replay.specs.Caps.{IsCapped, IsSizeCapped};
-ghost use Rattle.ng_replay.specs.Serving.{IsApartFrom, Makes, at_of};
+ghost use Rattle.ng_replay.specs.Serving.{IsApartFrom, Makes, Resizes, at_of};
 ghost use Rattle.ng_space.specs.Blocks.{BlockToken, HasFramed};
-ghost use Rattle.ng_terms.specs.Calls.{FitsMoved, FitsOp, calls_for, calls_of, reply_of, reply_of_free, standing};
+ghost use Rattle.ng_terms.specs.Calls.{FitsOp, calls_for, calls_of, reply_of, reply_of_free, standing};
 ghost use Rattle.ng_terms.specs.Heap.{large};
 ghost use Rattle.ng_terms.specs.declared.entry.Entry.TheVariants.{Take};
 
-use crate::make::make;
-use crate::stub::{ResizeRefusal, realloc_in};
+use crate::make::{make, resized_outcome};
+use crate::stub::realloc_in;
 use ng_group::Core;
 use ng_heap::Heap;
 use ng_mapper::Mapper;
@@ -164,35 +163,8 @@ fn move_from<N: Name, M: Mapper, P: Rules>(
     requires room { 2 ≤ hand.old.spare }
     requires cap { size < large → size ≤ N.facts.start.cap }
     requires framed { HasFramed hand.old old }
-    ensures fits { FitsMoved old.at size result.0 }
-    ensures entries { (mode : Mode) → hand.new.entries ≡ hand.old.entries ++ calls_for mode size result.0 }
-    ensures stands { at_of result.1 ≡ standing result.0 }
-    ensures framed { IfSome result.1 (HasFramed hand.new) }
-
-    ensures others { (other : BlockToken) → IsApart other.slot old.slot → HasFramed hand.old other → HasFramed hand.new other }
-    ensures apart { (other : BlockToken) → IsApart other.slot old.slot → HasFramed hand.old other → IsApartFrom result.1 other }
-
-    ensures frames { KeepsFrames hand.old hand.new }
-    ensures rest { KeepsRest hand.old.view hand.new.view }
-    ensures spare { hand.old.spare ≤ hand.new.spare + 2 }
+    ensures { Resizes size hand.old old result.0 result.1 hand.new }
 {
     let at = old.at();
-    match realloc_in(heap, core, hand, old, size) {
-        Ok(block) => {
-            let reply = Reply::Moved {
-                old: at,
-                at: block.at(),
-            };
-            (reply, Some(block))
-        }
-        Err((old, ResizeRefusal::NoMemory { excuse })) => {
-            let reply = Reply::NoMemory {
-                old: Some(at),
-                excuse,
-            };
-            (reply, Some(old))
-        }
-        Err((old, ResizeRefusal::TooLarge)) => (Reply::TooLarge { old: Some(at) }, Some(old)),
-        Err((_, ResizeRefusal::BadReserved | ResizeRefusal::Overrun)) => unreachable!(),
-    }
+    resized_outcome(at, realloc_in(heap, core, hand, old, size))
 }

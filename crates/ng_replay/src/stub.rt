@@ -2,10 +2,10 @@
 ghost use Rattle.std.specs.Prelude.{◌≡◌, ◌*◌, ◌<◌, ◌≤◌, ◌↔◌, Err, IfErr, IfOk, None, OnOk, Some};
 ghost use Rattle.ng_group.specs.Hands.{IsApart};
 ghost use Rattle.ng_heap.specs.Keeps.{KeepsFrames};
-ghost use Rattle.ng_replay.specs.Stub.{EnteredAll, IsLeft, IsMade, IsResized, aligned_entry, asked_for, calloc_entry, damage_told, realloc_entries, refusal_of};
+ghost use Rattle.ng_replay.specs.Stub.{AreZero, EnteredAll, IsLeft, IsMade, IsResized, aligned_entry, asked_for, calloc_entry, damage_told, realloc_entries, refusal_of};
 ghost use Rattle.ng_replay.specs.declared.stub.AlignRefusal.TheVariants as align_refusal;
 ghost use Rattle.ng_replay.specs.declared.stub.ResizeRefusal.TheVariants as resize_refusal;
-ghost use Rattle.ng_space.specs.Blocks.{BlockToken, HasBlock, HasFramed};
+ghost use Rattle.ng_space.specs.Blocks.{BlockToken, HasBlock, HasFramed, OfSlot};
 ghost use Rattle.ng_space.specs.Leaving.{Entered, KeepsRest, KeepsSlots, Leaves, LeavesAll};
 ghost use Rattle.ng_terms.specs.Heap.{IsAlignment, IsTooLarge, large};
 ghost use Rattle.ng_terms.specs.declared.refusal.AllocRefusal.TheVariants as refusal;
@@ -44,6 +44,7 @@ pub fn calloc_in<N: Name, M: Mapper, P: Rules>(
     requires cap { count * size < large → count * size ≤ N.facts.start.cap }
     requires stub { ⊥ }
     ensures made { IfOk result (λ block. IsMade (count * size) 16 hand.old block hand.new) }
+    ensures zero { IfOk result (λ block. OfSlot hand.new block.slot (AreZero block.at block.len)) }
     ensures large { (result ≡ Err refusal.TooLarge) ↔ IsTooLarge count size 16 }
     ensures entered { Entered hand.old hand.new (calloc_entry count size result) }
     ensures leaves { IfOk result (λ block. Leaves block.slot hand.old.view hand.new.view) }
@@ -64,6 +65,7 @@ pub fn calloc<N: Name, M: Mapper, P: Rules, R: Wait>(
     requires cap { count * size < large → count * size ≤ N.facts.start.cap }
     requires stub { ⊥ }
     ensures made { IfOk result (λ block. IsMade (count * size) 16 hand.old block hand.new) }
+    ensures zero { IfOk result (λ block. OfSlot hand.new block.slot (AreZero block.at block.len)) }
     ensures large { (result ≡ Err refusal.TooLarge) ↔ IsTooLarge count size 16 }
     ensures entered { Entered hand.old hand.new (calloc_entry count size result) }
     ensures leaves { IfOk result (λ block. Leaves block.slot hand.old.view hand.new.view) }

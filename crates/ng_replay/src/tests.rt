@@ -139,6 +139,24 @@ fn replayed<N: Name, P: Rules + Drop, R: Abort>(
     }
 }
 
+// The replies to the ops of logs, and the books of the logs.
+fn done<R: Abort>(
+    rt: &R,
+    alloc: Global,
+    logs: Vec<Log>,
+    mode: Mode,
+) -> Result<(Vec<Items<Reply>>, Vec<Book>), Fail>
+    requires few { length logs.items ≤ 16 }
+    requires short { sum_by length (lines_of logs.items) ≤ 1000000 }
+{
+    let plan = plan_of(alloc, logs)?;
+    let (blank, tables, mapper) = parts(alloc, &plan, mode)?;
+    let rules = Policy::new(count, keep);
+    Ok(replayed::<Brand, _, _>(
+        rt, alloc, &plan, mode, blank, tables, mapper, rules,
+    ))
+}
+
 #[test]
 fn a_log_moves_a_block(rt: HostRuntime) -> Result<(), Fail> {
     let alloc = rt.alloc();
@@ -158,12 +176,8 @@ fn a_log_moves_a_block(rt: HostRuntime) -> Result<(), Fail> {
         },
         Line::End { name: 0x10 },
     ];
-    let plan = plan_of(alloc, vec![in alloc; log_of(alloc, &lines)?]?)?;
-    let (blank, tables, mapper) = parts(alloc, &plan, PLAIN)?;
-    let rules = Policy::new(count, keep);
-    let (replies, books) = replayed::<Brand, _, _>(
-        &rt, alloc, &plan, PLAIN, blank, tables, mapper, rules,
-    );
+    let logs = vec![in alloc; log_of(alloc, &lines)?]?;
+    let (replies, books) = done(&rt, alloc, logs, PLAIN)?;
     let wanted = [
         Reply::Given { at: 0x2040 },
         Reply::Given { at: 0x2060 },
@@ -188,7 +202,7 @@ fn a_log_moves_a_block(rt: HostRuntime) -> Result<(), Fail> {
 }
 
 #[test]
-fn a_moved_block_goes_to_another_log(rt: HostRuntime) -> Result<(), Fail> {
+fn a_resized_block_goes_to_another_log(rt: HostRuntime) -> Result<(), Fail> {
     let alloc = rt.alloc();
     let first = [
         Line::Make {
@@ -209,34 +223,73 @@ fn a_moved_block_goes_to_another_log(rt: HostRuntime) -> Result<(), Fail> {
         },
     ];
     let logs = vec![in alloc; log_of(alloc, &first)?, log_of(alloc, &second)?]?;
-    let plan = plan_of(alloc, logs)?;
-    let (blank, tables, mapper) = parts(alloc, &plan, PLAIN)?;
-    let rules = Policy::new(count, keep);
-    let (replies, books) = replayed::<Brand, _, _>(
-        &rt, alloc, &plan, PLAIN, blank, tables, mapper, rules,
-    );
-    let moved = Reply::Moved {
+    let (replies, books) = done(&rt, alloc, logs, PLAIN)?;
+    let stayed = Reply::Moved {
         old: 0x2040,
-        at: 0x2060,
+        at: 0x2040,
     };
-    let sender = [
-        give(0x14, 0x2040),
-        give(0x14, 0x2060),
-        Entry::Take { at: 0x2040 },
-    ];
-    let taker = [Entry::Take { at: 0x2060 }, give(0x14, 0x2040)];
+    let resized = Entry::Resize {
+        at: 0x2040,
+        n: 0x14,
+    };
+    let taker = [Entry::Take { at: 0x2040 }, give(0x14, 0x2040)];
     assert_eq!(rt; replies.len(), 2);
     assert_eq!(rt; books.len(), 2);
     assert_eq!(rt;
         replies[0].as_slice(),
-        [Reply::Given { at: 0x2040 }, moved].as_slice()
+        [Reply::Given { at: 0x2040 }, stayed].as_slice()
     );
     assert_eq!(rt;
         replies[1].as_slice(),
-        [Reply::Freed { at: 0x2060 }, Reply::Given { at: 0x2040 }].as_slice()
+        [Reply::Freed { at: 0x2040 }, Reply::Given { at: 0x2040 }].as_slice()
     );
-    assert_eq!(rt; books[0].entries(), sender.as_slice());
+    assert_eq!(rt; books[0].entries(), [give(0x14, 0x2040), resized].as_slice());
     assert_eq!(rt; books[1].entries(), taker.as_slice());
+    Ok(())
+}
+
+#[test]
+fn a_make_is_zeroed_by_the_mode(rt: HostRuntime) -> Result<(), Fail> {
+    let alloc = rt.alloc();
+    let lines = [Line::Make {
+        name: 0x10,
+        size: 0x14,
+    }];
+    let mode = Mode {
+        align: None,
+        zero: true,
+    };
+    let logs = vec![in alloc; log_of(alloc, &lines)?]?;
+    let (replies, books) = done(&rt, alloc, logs, mode)?;
+    assert_eq!(rt; replies.len(), 1);
+    assert_eq!(rt; books.len(), 1);
+    assert_eq!(rt; replies[0].as_slice(), [Reply::Given { at: 0x2040 }].as_slice());
+    assert_eq!(rt; books[0].entries(), [give(0x14, 0x2040)].as_slice());
+    Ok(())
+}
+
+#[test]
+fn a_make_is_aligned_by_the_mode(rt: HostRuntime) -> Result<(), Fail> {
+    let alloc = rt.alloc();
+    let lines = [Line::Make {
+        name: 0x10,
+        size: 0x64,
+    }];
+    let mode = Mode {
+        align: Some(0x20_0000),
+        zero: false,
+    };
+    let logs = vec![in alloc; log_of(alloc, &lines)?]?;
+    let (replies, books) = done(&rt, alloc, logs, mode)?;
+    let given = Entry::Give {
+        n: 0x64,
+        align: 0x20_0000,
+        at: 0x20_0000,
+    };
+    assert_eq!(rt; replies.len(), 1);
+    assert_eq!(rt; books.len(), 1);
+    assert_eq!(rt; replies[0].as_slice(), [Reply::Given { at: 0x20_0000 }].as_slice());
+    assert_eq!(rt; books[0].entries(), [given].as_slice());
     Ok(())
 }
 
