@@ -38,9 +38,9 @@ aligned_entry align n (Err (align_refusal.NoMemory excuse)) = entry.NoMemory n e
 abbrev pub AreZero : ℕ → ℕ → Held → Type 0
 AreZero a count h = (i : ℕ) → i < count → KnowsByte (a + i) 0 h
 
-pub record IsMade (n align : ℕ) (before : Caller) (block : BlockToken) (after : Caller) : Type 0 where
+pub record IsMade (n boundary : ℕ) (before : Caller) (block : BlockToken) (after : Caller) : Type 0 where
   pub len : block.len ≡ n
-  pub align : block.align ≡ align
+  pub align : block.align ≡ boundary
   pub framed : HasFramed after block
   pub fresh : IsFresh before block.slot
   pub apart : (other : BlockToken) → HasBlock before other → other.at ≢ block.at
@@ -73,10 +73,10 @@ abbrev pub realloc_entries : BlockToken → ℕ → Result BlockToken (BlockToke
 realloc_entries block n (Ok new) = if block.at == new.at then entry.Resize block.at n ∷ [] else entry.Give n 16 new.at ∷ entry.Take block.at ∷ []
 realloc_entries block n (Err left) = refused_entry block.at n left.1 ∷ []
 
-pub record EnteredAll (before after : Caller) (entries : List Entry) : Type 0 where
+pub record EnteredAll (before after : Caller) (calls : List Entry) : Type 0 where
   pub number : after.number ≡ before.number
-  pub spare : after.spare + length entries ≡ before.spare
-  pub entries : after.entries ≡ before.entries ++ entries
+  pub spare : after.spare + length calls ≡ before.spare
+  pub entries : after.entries ≡ before.entries ++ calls
 
 pub record IsResized (n : ℕ) (before : Caller) (block new : BlockToken) (after : Caller) : Type 0 where
   pub len : new.len ≡ n

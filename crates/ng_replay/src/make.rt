@@ -84,12 +84,17 @@ pub(crate) fn resized_outcome<N: Name>(
             };
             (reply, Some(block))
         }
-        Err((block, ResizeRefusal::NoMemory { excuse })) => {
+        Err(refused) => {
+            let (block, why) = refused;
             let old = Some(at);
-            (Reply::NoMemory { old, excuse }, Some(block))
+            match why {
+                ResizeRefusal::NoMemory { excuse } => {
+                    (Reply::NoMemory { old, excuse }, Some(block))
+                }
+                ResizeRefusal::TooLarge => (Reply::TooLarge { old }, Some(block)),
+                ResizeRefusal::BadReserved | ResizeRefusal::Overrun => unreachable!(),
+            }
         }
-        Err((block, ResizeRefusal::TooLarge)) => (Reply::TooLarge { old: Some(at) }, Some(block)),
-        Err((_, ResizeRefusal::BadReserved | ResizeRefusal::Overrun)) => unreachable!(),
     }
 }
 
