@@ -6,3 +6,4 @@ pub mod Works
 pub mod Crews
 pub mod Caps
 pub mod Tests
+pub mod Stub

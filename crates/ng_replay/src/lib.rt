@@ -10,6 +10,7 @@ mod op;
 mod passing;
 mod room;
 mod source;
+mod stub;
 mod threading;
 mod turns;
 mod worker;
