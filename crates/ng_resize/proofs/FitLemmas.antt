@@ -1,24 +1,22 @@
 -- Where a block may get another length without a move.
-use Rattle.std.proofs.Common.{◌≡◌, ◌⊎◌, ℕ, ◌+◌, ◌-◌, ◌*◌, ◌/◌, ◌<◌, ◌≤◌, refl, sym, ap, ◌∙◌, subst, ⊎_elim, inl, inr, arith}
-use Rattle.std.specs.Prelude.{◌↔◌, Bool, IsTrue, Some}
+use Rattle.std.proofs.Common.{◌≡◌, ◌⊎◌, ℕ, ◌+◌, ◌-◌, ◌*◌, ◌<◌, ◌≤◌, refl, sym, ap, ◌∙◌, subst, ⊎_elim, inl, inr, arith}
+use Rattle.std.specs.Prelude.{◌↔◌, Bool, IsTrue}
 use Rattle.ng_space.specs.Leaving.{LeavesAll}
 use Rattle.ng_class.specs.Class.{IsAllowedClass}
-use Rattle.ng_class.specs.Slot.{IsGroupClass, IsLoneGroup}
+use Rattle.ng_class.specs.Slot.{IsLoneGroup}
 use Rattle.ng_class.proofs.Slots.{stride_of_single}
 use Rattle.ng_frame.specs.Inspects.{gap_of}
-use Rattle.ng_heap.specs.Causes.{threshold}
 use Rattle.ng_space.specs.Blocks.{BlockToken, HasBlock, OfSlot, Serves}
 use Rattle.ng_space.specs.Callers.{Caller}
 use Rattle.ng_space.specs.Placed.{ArePlaced, LiesIn}
 use Rattle.ng_space.specs.Tokens.{LiesAt, Token}
 use Rattle.ng_rule.proofs.geometry.Lists.{find_among}
-use Rattle.ng_view.specs.Lists.{find}
 use Rattle.ng_view.specs.Places.{stride}
 use Rattle.ng_view.specs.declared.view.Group.{Group}
 use Rattle.ng_view.specs.declared.view.Held.{Held}
 use Rattle.ng_view.specs.declared.view.Place.{Place}
 use Rattle.ng_view.specs.declared.view.Start.{Start}
-use Rattle.ng_resize.specs.Fitting.{FitsRun, FitsSlot, MayStay, StaysInPlace}
+use Rattle.ng_resize.specs.Fitting.{FitsRun, FitsSlot, StaysInPlace}
 use Rattle.ng_frame.specs.Located.{IsLocated}
 use Rattle.ng_frame.specs.declared.locating.Location.{Location}
 

@@ -1,13 +1,11 @@
 -- What a resize leaves of a hand's slots but for the block's.
-use Rattle.std.proofs.Common.{◌≡◌, ◌≢◌, ℕ, ◌+◌, ◌<◌, refl, sym, ap, ◌∙◌, subst, ⊎_elim, inl, inr, arith}
-use Rattle.std.specs.Prelude.{Some, ◌%◌, ◌/◌, ◌*◌, ◌^◌}
-use Rattle.ng_frame.proofs.Tokens.{block_stays, framed_stays}
+use Rattle.std.proofs.Common.{◌≡◌, ℕ, sym, subst, ⊎_elim, inl, inr}
+use Rattle.std.specs.Prelude.{Some, ◌/◌, ◌*◌}
+use Rattle.ng_frame.proofs.Tokens.{framed_stays}
 use Rattle.ng_group.specs.Hands.{IsApart}
-use Rattle.ng_heap.specs.Keeps.{IsFresh}
-use Rattle.ng_heap.proofs.StayLemmas.{fresh_slots}
-use Rattle.ng_space.specs.Blocks.{BlockToken, HasBlock, HasFramed, OfSlot}
+use Rattle.ng_space.specs.Blocks.{BlockToken, HasFramed, OfSlot}
 use Rattle.ng_space.specs.Callers.{Caller}
-use Rattle.ng_space.specs.Leaving.{IsOther, KeepsOthers, KeepsSlots, Learns, Leaves, LeavesAll, Stays}
+use Rattle.ng_space.specs.Leaving.{KeepsSlots, Learns, Leaves, Stays}
 use Rattle.ng_space.specs.Tokens.{Token}
 use Rattle.ng_space.proofs.Leaving.{stays_then}
 use Rattle.ng_view.specs.Frame.{KnowsByte}

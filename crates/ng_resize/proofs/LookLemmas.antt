@@ -1,6 +1,6 @@
 -- What is looked at before a block gets another length, and what that tells of the rule.
-use Rattle.std.proofs.Common.{◌≡◌, ◌+◌, ℕ, Bool, true, false, true≢false, refl, sym, ap, ◌∙◌, subst}
-use Rattle.std.specs.Prelude.{◌↔◌, IsTrue, Result, Ok, Err, Some, None}
+use Rattle.std.proofs.Common.{◌≡◌, ℕ, Bool, true, false, true≢false, sym, ◌∙◌, subst}
+use Rattle.std.specs.Prelude.{◌↔◌, IsTrue, Result, Ok}
 use Rattle.ng_frame.specs.Inspects.{Inspects, gap_of}
 use Rattle.ng_frame.specs.Judging.{IsJudged, damage_in, verdict_of}
 use Rattle.ng_frame.specs.declared.damage.Damage.{Damage}

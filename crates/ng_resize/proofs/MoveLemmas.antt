@@ -1,23 +1,20 @@
 -- A block that moves: a new one is made, bytes are copied to it, and the old one is freed.
-use Rattle.std.proofs.Common.{[], ◌∷◌, ◌≡◌, ◌≢◌, ℕ, ◌+◌, ◌*◌, ◌/◌, ◌%◌, ◌^◌, ◌<◌, refl, sym, ap, ◌∙◌, subst}
-use Rattle.std.specs.Prelude.{Some}
+use Rattle.std.proofs.Common.{[], ◌∷◌, ◌≡◌, ◌≢◌, ℕ, ◌+◌, ◌*◌, ◌/◌, ◌%◌, ◌^◌, sym, ap, ◌∙◌, subst}
 use Rattle.ng_frame.specs.Judging.{IsSureByte}
 use Rattle.ng_frame.proofs.Tokens.{framed_kept}
 use Rattle.ng_heap.proofs.StayLemmas.{fresh_slots}
 use Rattle.ng_space.specs.Blocks.{BlockToken, HasBlock, HasFramed, OfSlot}
 use Rattle.ng_space.specs.Callers.{Caller}
-use Rattle.ng_space.specs.Leaving.{AreFramed, Entered, KeepsBook, KeepsRest, KeepsSlots, Leaves}
+use Rattle.ng_space.specs.Leaving.{AreFramed, Entered, KeepsRest, KeepsSlots, Leaves}
 use Rattle.ng_space.proofs.Leaving.{others_then, rest_then}
 use Rattle.ng_terms.specs.declared.entry.Entry.TheVariants.{Give, Take}
 use Rattle.ng_view.specs.Frame.{KnowsByte}
-use Rattle.ng_view.specs.Lists.{find}
 use Rattle.ng_view.specs.declared.view.Held.{Held}
 use Rattle.ng_view.specs.declared.view.View.{View}
 use Rattle.ng_resize.specs.Moving.{Copies, KeepsFirst, Moves}
 use Rattle.ng_resize.specs.Refusals.{EnteredAll}
 use Rattle.ng_resize.specs.Resizing.{IsResized, KeepsApart}
 use Rattle.ng_resize.specs.Steps.{HasMoved}
-use Rattle.ng_bytes.specs.Contents.{AreCopied}
 use Rattle.ng_heap.specs.Making.{IsMade}
 use Rattle.ng_resize.proofs.EntryLemmas.{entered_two}
 use Rattle.ng_resize.proofs.KeepLemmas.{apart_flip, apart_own, byte_stays}

@@ -1,25 +1,20 @@
 -- What a resize comes to, by what was looked at and what was done then.
-use Rattle.std.proofs.Common.{◌≡◌, ◌≢◌, ◌⊎◌, ℕ, ◌+◌, ◌*◌, ◌/◌, ◌<◌, ◌≤◌, min, Bool, true, false, refl, sym, ap, ◌∙◌, subst, inl, inr, arith}
-use Rattle.std.specs.Prelude.{◌↔◌, IsTrue, Result, Ok, Err, Some}
+use Rattle.std.proofs.Common.{◌≡◌, ◌≢◌, ℕ, ◌+◌, ◌*◌, ◌/◌, min, sym, ap, ◌∙◌, subst, arith}
+use Rattle.std.specs.Prelude.{◌↔◌, Result, Ok, Err}
 use Rattle.ng_frame.proofs.Tokens.{block_stays, framed_stays}
 use Rattle.ng_group.specs.Hands.{IsApart}
 use Rattle.ng_heap.specs.Keeps.{KeepsFrames}
-use Rattle.ng_space.specs.Blocks.{BlockToken, HasBlock, HasFramed, OfSlot, Serves}
+use Rattle.ng_space.specs.Blocks.{BlockToken, HasBlock, HasFramed, OfSlot}
 use Rattle.ng_space.specs.Callers.{Caller}
-use Rattle.ng_space.specs.Leaving.{AreFramed, Entered, KeepsBook, KeepsRest, KeepsSlots, Leaves, LeavesAll, Stays}
+use Rattle.ng_space.specs.Leaving.{KeepsBook, KeepsRest, Leaves, LeavesAll, Stays}
 use Rattle.ng_space.proofs.Leaving.{rest_then}
-use Rattle.ng_space.proofs.LeavingFrames.{all_leaves, leaves_all_then, leaves_then}
+use Rattle.ng_space.proofs.LeavingFrames.{all_leaves, leaves_then}
 use Rattle.ng_view.specs.Frame.{KnowsByte}
-use Rattle.ng_view.specs.Lists.{find}
-use Rattle.ng_view.specs.declared.view.Held.{Held}
-use Rattle.ng_view.specs.declared.view.View.{View}
-use Rattle.ng_resize.specs.Fitting.{MayStay, StaysInPlace}
-use Rattle.ng_resize.specs.Looking.{FindsLength, LooksFirst}
+use Rattle.ng_resize.specs.Fitting.{StaysInPlace}
 use Rattle.ng_resize.specs.Moving.{KeepsFirst}
-use Rattle.ng_resize.specs.Resizing.{IsLeft, IsResized, KeepsApart, ResizesHere, with_len}
+use Rattle.ng_resize.specs.Resizing.{IsLeft, IsResized, KeepsApart, with_len}
 use Rattle.ng_resize.specs.Steps.{HasMoved}
 use Rattle.ng_frame.specs.Contents.{KeepsBytes}
-use Rattle.ng_resize.specs.declared.refusal.ResizeRefusal.{ResizeRefusal}
 use Rattle.ng_resize.proofs.KeepLemmas.{apart_own, apart_then, byte_stays, others_framed}
 
 -- ---- the block is as it was

@@ -1,5 +1,5 @@
 -- What a resize under the lock tells a caller that has no core.
-use Rattle.std.proofs.Common.{◌≡◌, ◌⊎◌, ℕ, Bool, List, Ok, Err, ⊎_elim, inl, inr, min}
+use Rattle.std.proofs.Common.{◌≡◌, ℕ, Bool, List, Ok, Err, ⊎_elim, inl, inr, min}
 use Rattle.std.specs.Prelude.{Result}
 use Rattle.ng_group.specs.States.{State}
 use Rattle.ng_heap.specs.Freeing.{FreesIn}

@@ -1,10 +1,10 @@
 -- What the verdict on a block's frame tells of a resize.
-use Rattle.std.proofs.Common.{◌≡◌, ℕ, ◌+◌, ◌-◌, ◌/◌, ◌%◌, ◌<◌, ◌≤◌, Bool, true, false, refl, sym, ap, ◌∙◌, subst, arith}
+use Rattle.std.proofs.Common.{◌≡◌, ℕ, ◌-◌, ◌/◌, ◌%◌, ◌<◌, ◌≤◌, Bool, true, false, sym, ap, ◌∙◌, subst, arith}
 use Rattle.std.specs.Prelude.{◌&&◌, Result, Ok, Err, Option, Some, None, nat_lt, if◌then◌else◌}
-use Rattle.ng_header.specs.Reading.{nominal_in, reserved_in}
+use Rattle.ng_header.specs.Reading.{reserved_in}
 use Rattle.ng_header.specs.declared.reading.NominalFault.{NominalFault}
 use Rattle.ng_header.specs.declared.reading.NominalFault.TheVariants as nominal
-use Rattle.ng_frame.specs.Inspects.{Inspects, Refuses, gap_of, number_of}
+use Rattle.ng_frame.specs.Inspects.{Inspects, Refuses, number_of}
 use Rattle.ng_frame.specs.Judging.{IsJudged, IsKnownDamage, IsKnownVerdict, damage_by, damage_in, verdict_by, verdict_of}
 use Rattle.ng_frame.specs.declared.damage.Damage.{Damage}
 use Rattle.ng_frame.specs.declared.damage.Damage.TheVariants as damage

@@ -16,7 +16,7 @@ use Rattle.ng_terms.specs.declared.refusal.AllocRefusal.TheVariants as alloc
 use Rattle.ng_view.specs.declared.view.View.{View}
 use Rattle.ng_resize.specs.Fitting.{MayStay}
 use Rattle.ng_resize.specs.Looking.{LooksFirst}
-use Rattle.ng_resize.specs.Moving.{KeepsFirst, Moves}
+use Rattle.ng_resize.specs.Moving.{Moves}
 use Rattle.ng_frame.specs.Contents.{KeepsBytes}
 use Rattle.ng_resize.specs.declared.refusal.ResizeRefusal.{ResizeRefusal}
 use Rattle.ng_resize.specs.declared.refusal.ResizeRefusal.TheVariants.{NoMemory, TooLarge, BadReserved, Overrun}

@@ -1,5 +1,5 @@
 -- What the steps of a resize tell each other. No public clause cites this module.
-use Rattle.std.specs.Prelude.{◌≡◌, ◌≢◌, ℕ, ◌∷◌, [], Ok}
+use Rattle.std.specs.Prelude.{◌≢◌, ℕ, ◌∷◌, [], Ok}
 use Rattle.ng_frame.specs.Inspects.{gap_of}
 use Rattle.ng_frame.specs.Judging.{IsJudged}
 use Rattle.ng_space.specs.Blocks.{BlockToken}

@@ -1,4 +1,3 @@
-use Rattle.std.proofs.Common.{◌≡◌}
 use Rattle.ng_space.specs.Leaving.{LeavesAll}
 use Rattle.ng_space.proofs.LeavingFrames.{leaves_entered}
 use Rattle.ng_resize.proofs.aligning.aligned_in.Goals as goal

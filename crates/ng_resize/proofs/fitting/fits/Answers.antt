@@ -1,4 +1,4 @@
-use Rattle.std.proofs.Common.{◌≡◌, ◌⊎◌, ◌<◌, refl, ⊎_elim}
+use Rattle.std.proofs.Common.{◌≡◌, ◌<◌, refl, ⊎_elim}
 use Rattle.ng_space.proofs.LeavingFrames.{leaves_loaded}
 use Rattle.ng_resize.proofs.FitLemmas.{located_since, run_exact, run_within, slot_exact}
 use Rattle.ng_resize.proofs.fitting.fits.Goals as goal

@@ -1,4 +1,3 @@
-use Rattle.std.proofs.Common.{◌≡◌}
 use Rattle.ng_space.proofs.LeavingFrames.{leaves_all_then}
 use Rattle.ng_resize.proofs.fitting.may_stay.Goals as goal
 

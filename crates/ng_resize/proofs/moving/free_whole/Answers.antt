@@ -1,4 +1,4 @@
-use Rattle.std.proofs.Common.{◌≡◌, subst}
+use Rattle.std.proofs.Common.{subst}
 use Rattle.ng_frame.specs.Inspects.{gap_of}
 use Rattle.ng_frame.specs.Judging.{IsJudged, verdict_of}
 use Rattle.ng_space.specs.Blocks.{BlockToken, OfSlot}

@@ -1,4 +1,4 @@
-use Rattle.std.proofs.Common.{◌≡◌, subst}
+use Rattle.std.proofs.Common.{subst}
 use Rattle.ng_frame.proofs.Tokens.{block_stays}
 use Rattle.ng_group.proofs.WorkingLemmas.{goes_then}
 use Rattle.ng_heap.specs.Freeing.{FreesIn}

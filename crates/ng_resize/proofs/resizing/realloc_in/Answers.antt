@@ -1,8 +1,9 @@
-use Rattle.std.proofs.Common.{◌≡◌, ◌<◌, ◌∙◌, min, ap, inl, inr, refl, subst, sym, arith}
+use Rattle.std.proofs.Common.{◌<◌, ◌∙◌, min, inl, inr, refl, subst, arith}
 use Rattle.ng_frame.specs.Inspects.{gap_of}
 use Rattle.ng_frame.proofs.Tokens.{block_stays}
 use Rattle.ng_space.proofs.LeavingFrames.{leaves_all_then, leaves_entered}
-use Rattle.ng_resize.specs.Moving.{KeepsFirst}
+use Rattle.ng_heap.specs.Freeing.{FreesIn}
+use Rattle.ng_resize.specs.Moving.{KeepsFirst, MakesIn}
 use Rattle.ng_resize.proofs.EntryLemmas.{not_large}
 use Rattle.ng_resize.proofs.FitLemmas.{stays_serves}
 use Rattle.ng_resize.proofs.LookLemmas.{book_then, finds_length, goes_away, looked_whole, looks_first, rule_goes, rule_stays, stays_here}
@@ -68,6 +69,7 @@ may_stay-requires-clause-block g c =
     block_stays c.args.hand.now c.nominal_size.new.hand looks.book.number c.args.block (looks.leaves.all.slots c.args.block.slot.meta c.args.block.slot.index) c.requires.block
 
 -- ---- it stays
+
 pub resize-requires-clause-block : goal.resize-requires-clause-block
 resize-requires-clause-block g c =
     let looks = c.nominal_size.ensures in
@@ -235,7 +237,9 @@ returns-in-Ok-move_to_new-clause-cause g c =
         looked = c.may_stay.new.hand;
         looks = looks_first c.args.hand.now c.nominal_size.new.hand c.may_stay.new.hand c.args.block c.in-Ok.len c.args.n c.may_stay.result c.requires.block finds stay.leaves stay.book stay.exact;
         goes = goes_away c.args.hand.now c.nominal_size.new.hand c.may_stay.new.hand c.args.block c.in-Ok.len c.args.n c.may_stay.result c.requires.block finds stay.leaves stay.book stay.exact c.if-may_stay.false;
-        moves = moves_as _ _ _ _ _ _ _ _ c.min.ensures c.in-Ok-move_to_new.ensures.moves;
+        moves = moves_as (MakesIn (g.P.Rules.count_gives c.args.core.now.rules) c.args.core.now c.args.n)
+            (λ mid copied. FreesIn (g.P.Rules.keep_gives c.args.core.now.rules) g.M.Mapper.runs copied c.args.block mid c.move_to_new.new.core)
+            c.may_stay.new.hand c.args.block c.min.result (min c.in-Ok.len c.args.n) c.in-Ok-move_to_new.new c.move_to_new.new.hand c.min.ensures c.in-Ok-move_to_new.ensures.moves;
       },
     )
 

@@ -1,4 +1,3 @@
-use Rattle.std.proofs.Common.{◌≡◌}
 use Rattle.ng_resize.proofs.ShareLemmas.{cause_alone}
 use Rattle.ng_resize.proofs.sharing.realloc.Goals as goal
 
