@@ -16,9 +16,10 @@ use Rattle.ng_terms.specs.declared.reply.Mode.{Mode}
 use Rattle.ng_terms.specs.Calls.{FitsMade, align_of, calls_of_make, reply_of, standing}
 use Rattle.ng_terms.specs.Heap.{IsAlignment, IsTooLarge}
 use Rattle.ng_replay.specs.Serving.{Makes, at_of, block_of, made_of, made_of_aligned}
-use Rattle.ng_replay.specs.Stub.{IsMade, aligned_entry, calloc_entry, request_entry}
-use Rattle.ng_replay.specs.declared.stub.AlignRefusal.{AlignRefusal}
-use Rattle.ng_replay.specs.declared.stub.AlignRefusal.TheVariants as align_refusal
+use Rattle.ng_heap.specs.Making.{calloc_entry, request_entry}
+use Rattle.ng_resize.specs.Aligning.{aligned_entry}
+use Rattle.ng_resize.specs.declared.refusal.AlignRefusal.{AlignRefusal}
+use Rattle.ng_resize.specs.declared.refusal.AlignRefusal.TheVariants as align_refusal
 
 -- a block that was given, and a request that was refused
 Makes-given : (mode : Mode) (size : ℕ) (before after : Caller) (block : BlockToken) → FitsMade mode size (made.Given block.at)

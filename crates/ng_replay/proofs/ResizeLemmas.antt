@@ -11,9 +11,10 @@ use Rattle.ng_terms.specs.declared.reply.Reply.{Reply}
 use Rattle.ng_terms.specs.declared.reply.Reply.TheVariants as reply
 use Rattle.ng_terms.specs.Heap.{IsTooLarge}
 use Rattle.ng_replay.specs.Serving.{IsReplyTo, Resizes, left_of}
-use Rattle.ng_replay.specs.Stub.{EnteredAll, IsLeft, IsResized, realloc_entries, refusal_of}
-use Rattle.ng_replay.specs.declared.stub.ResizeRefusal.{ResizeRefusal}
-use Rattle.ng_replay.specs.declared.stub.ResizeRefusal.TheVariants.{NoMemory, TooLarge, BadReserved, Overrun}
+use Rattle.ng_resize.specs.Refusals.{EnteredAll, realloc_entries, refusal_of}
+use Rattle.ng_resize.specs.Resizing.{IsLeft, IsResized}
+use Rattle.ng_resize.specs.declared.refusal.ResizeRefusal.{ResizeRefusal}
+use Rattle.ng_resize.specs.declared.refusal.ResizeRefusal.TheVariants.{NoMemory, TooLarge, BadReserved, Overrun}
 
 -- a resize has two entries at most
 few : (here : Bool) (one more : List Entry) (spare was : ℕ) → length one ≤ 2 → length more ≤ 2 → spare + length (cond here one more) ≡ was → was ≤ spare + 2

@@ -3,7 +3,7 @@ use Rattle.std.specs.Prelude.{◌≡◌, ◌⊎◌, ℕ, ◌<◌, ◌≤◌, Con
 use Rattle.ng_terms.specs.declared.plan.Op.{Op}
 use Rattle.ng_terms.specs.declared.reply.Mode.{Mode}
 use Rattle.ng_terms.specs.Accounts.{Asks}
-use Rattle.ng_replay.specs.Stub.{asked_for}
+use Rattle.ng_frame.specs.Puts.{asked_for}
 use Rattle.ng_terms.specs.Calls.{align_of}
 use Rattle.ng_terms.specs.Heap.{large}
 

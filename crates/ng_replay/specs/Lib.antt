@@ -6,4 +6,3 @@ pub mod Works
 pub mod Crews
 pub mod Caps
 pub mod Tests
-pub mod Stub

@@ -15,10 +15,10 @@ use Rattle.ng_terms.specs.declared.reply.Mode.{Mode}
 use Rattle.ng_terms.specs.declared.reply.Reply.{Reply}
 use Rattle.ng_terms.specs.declared.reply.Reply.TheVariants as reply
 use Rattle.ng_terms.specs.Accounts.{Counts, IsAsked}
-use Rattle.ng_replay.specs.declared.stub.AlignRefusal.{AlignRefusal}
-use Rattle.ng_replay.specs.declared.stub.AlignRefusal.TheVariants as align_refusal
-use Rattle.ng_replay.specs.declared.stub.ResizeRefusal.{ResizeRefusal}
-use Rattle.ng_replay.specs.declared.stub.ResizeRefusal.TheVariants as resize_refusal
+use Rattle.ng_resize.specs.declared.refusal.AlignRefusal.{AlignRefusal}
+use Rattle.ng_resize.specs.declared.refusal.AlignRefusal.TheVariants as align_refusal
+use Rattle.ng_resize.specs.declared.refusal.ResizeRefusal.{ResizeRefusal}
+use Rattle.ng_resize.specs.declared.refusal.ResizeRefusal.TheVariants as resize_refusal
 use Rattle.ng_terms.specs.Calls.{FitsMade, FitsMoved, calls_for, calls_of_make, reply_of, standing}
 
 -- the most bytes that an op of the plan asks for under the mode, but for those that are too many; or 0

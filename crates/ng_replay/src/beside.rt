@@ -4,7 +4,7 @@ ghost use Rattle.ng_space.specs.Leaving.{KeepsOthers, KeepsRest};
 ghost use Rattle.ng_heap.specs.Keeps.{KeepsFrames};
 ghost use Rattle.ng_replay.specs.Caps.{IsCapped, IsSizeCapped};
 ghost use Rattle.ng_replay.specs.Serving.{IsApartFrom, Makes, Resizes, at_of};
-ghost use Rattle.ng_replay.specs.Stub.{AreZero};
+ghost use Rattle.ng_bytes.specs.Contents.{AreZero};
 ghost use Rattle.ng_space.specs.Blocks.{BlockToken, HasFramed, OfSlot};
 ghost use Rattle.ng_terms.specs.Calls.{FitsOp, calls_for, calls_of, reply_of, reply_of_free, standing};
 ghost use Rattle.ng_terms.specs.Heap.{large};
@@ -12,10 +12,10 @@ ghost use Rattle.ng_terms.specs.declared.entry.Entry.TheVariants.{Take};
 
 use crate::make::{aligned_outcome, outcome, resized_outcome};
 use crate::op::{leave, reply_to_make};
-use crate::stub::{aligned_alloc, calloc, realloc};
 use ng_heap::SharedHeap;
 use ng_mapper::Mapper;
 use ng_policy::Rules;
+use ng_resize::{aligned_alloc, realloc};
 use ng_space::{Block, Hand, Name};
 use ng_terms::{Made, Mode, Op, Origin, Reply};
 use std::sync::Wait;
@@ -96,7 +96,7 @@ fn make<N: Name, M: Mapper, P: Rules, R: Wait>(
         Some(align) => aligned_outcome(aligned_alloc(heap, rt, hand, align, size)),
         None => {
             if mode.zero {
-                outcome(calloc(heap, rt, hand, 1, size))
+                outcome(heap.calloc(rt, hand, 1, size))
             } else {
                 outcome(heap.malloc(rt, hand, size))
             }

@@ -10,7 +10,6 @@ mod op;
 mod passing;
 mod room;
 mod source;
-mod stub;
 mod threading;
 mod turns;
 mod worker;

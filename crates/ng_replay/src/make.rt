@@ -1,15 +1,16 @@
 ghost use Rattle.std.specs.Prelude.{◌≡◌, ◌≤◌, IfSome, IsTrue, None, Some};
 ghost use Rattle.ng_replay.specs.Caps.{IsSizeCapped};
 ghost use Rattle.ng_replay.specs.Serving.{IsReplyTo, Makes, block_of, left_of, made_of, made_of_aligned};
-ghost use Rattle.ng_replay.specs.Stub.{AreZero, damage_told};
+ghost use Rattle.ng_bytes.specs.Contents.{AreZero};
+ghost use Rattle.ng_resize.specs.Refusals.{damage_told};
 ghost use Rattle.ng_space.specs.Blocks.{OfSlot};
 ghost use Rattle.ng_terms.specs.Calls.{align_of};
 
-use crate::stub::{AlignRefusal, ResizeRefusal, aligned_in, calloc_in};
 use ng_group::Core;
 use ng_heap::{AllocRefusal, Heap};
 use ng_mapper::Mapper;
 use ng_policy::Rules;
+use ng_resize::{AlignRefusal, ResizeRefusal, aligned_in};
 use ng_space::{Block, Hand, Name};
 use ng_terms::{Made, Mode, Reply};
 
@@ -30,7 +31,7 @@ pub fn make<N: Name, M: Mapper, P: Rules>(
         Some(align) => aligned_outcome(aligned_in(heap, core, hand, align, size)),
         None => {
             if mode.zero {
-                outcome(calloc_in(heap, core, hand, 1, size))
+                outcome(heap.calloc_in(core, hand, 1, size))
             } else {
                 outcome(heap.malloc_in(core, hand, size))
             }
