@@ -62,13 +62,13 @@ pub Makes-requested : (mode : Mode) (size n : ℕ) (before after : Caller) (give
     → IfOk given (λ (block : BlockToken). IsMade n 16 before block after)
     → IfOk given (λ (block : BlockToken). Leaves block.slot before.view after.view) → IfErr given (λ (why : AllocRefusal). LeavesAll before.view after.view)
     → KeepsSlots before.view after.view → Makes mode size before (made_of given) (block_of given) after
-Makes-requested mode size n before after (Ok block) same large entered made leaves kept slots =
+Makes-requested mode size n before after (Ok block) same large entered given_so leaves kept slots =
     Makes-given mode size before after block
-    (rw same (common, λ too. absurd (let clash : Ok block ≡ Err refusal.TooLarge = large.1 too in cc))) (rw same entered) made.framed made.fresh leaves slots
-Makes-requested mode size n before after (Err (refusal.NoMemory excuse)) same large entered made leaves kept slots =
+    (rw same (common, λ too. absurd (let clash : Ok block ≡ Err refusal.TooLarge = large.1 too in cc))) (rw same entered) given_so.framed given_so.fresh leaves slots
+Makes-requested mode size n before after (Err (refusal.NoMemory excuse)) same large entered given_so leaves kept slots =
     Makes-refused mode size before after (made.NoMemory excuse) (entry.NoMemory size excuse)
     (rw same (common, λ too. absurd (let clash : Err (refusal.NoMemory excuse) ≡ Err refusal.TooLarge = large.1 too in cc))) refl refl entered kept slots
-Makes-requested mode size n before after (Err refusal.TooLarge) same large entered made leaves kept slots =
+Makes-requested mode size n before after (Err refusal.TooLarge) same large entered given_so leaves kept slots =
     Makes-refused mode size before after made.TooLarge (entry.TooLarge 1 size 16) (rw same (common, large.0 refl)) (rw same refl) refl entered kept slots
 
 -- a request of one zeroed block
@@ -90,17 +90,17 @@ pub Makes-aligned : (mode : Mode) (size align : ℕ) (before after : Caller) (gi
     → IfOk given (λ (block : BlockToken). IsMade size align before block after)
     → IfOk given (λ (block : BlockToken). Leaves block.slot before.view after.view) → IfErr given (λ (why : AlignRefusal). LeavesAll before.view after.view)
     → KeepsSlots before.view after.view → Makes mode size before (made_of_aligned given) (block_of given) after
-Makes-aligned mode size align before after (Ok block) same bad large entered made leaves kept slots =
+Makes-aligned mode size align before after (Ok block) same bad large entered given_so leaves kept slots =
     let good : IsAlignment align = is_alignment align (Ok block) bad (λ (clash : Ok block ≡ Err align_refusal.BadAlign). absurd (cc)) in
     Makes-given mode size before after block
-    (rw same (good, λ too. absurd (let clash : Ok block ≡ Err align_refusal.TooLarge = large.1 (good, too) in cc))) (rw same entered) made.framed made.fresh leaves slots
-Makes-aligned mode size align before after (Err (align_refusal.NoMemory excuse)) same bad large entered made leaves kept slots =
+    (rw same (good, λ too. absurd (let clash : Ok block ≡ Err align_refusal.TooLarge = large.1 (good, too) in cc))) (rw same entered) given_so.framed given_so.fresh leaves slots
+Makes-aligned mode size align before after (Err (align_refusal.NoMemory excuse)) same bad large entered given_so leaves kept slots =
     let good : IsAlignment align = is_alignment align (Err (align_refusal.NoMemory excuse)) bad (λ (clash : Err (align_refusal.NoMemory excuse) ≡ Err align_refusal.BadAlign). absurd (cc)) in
     Makes-refused mode size before after (made.NoMemory excuse) (entry.NoMemory size excuse)
     (rw same (good, λ too. absurd (let clash : Err (align_refusal.NoMemory excuse) ≡ Err align_refusal.TooLarge = large.1 (good, too) in cc))) refl refl entered kept slots
-Makes-aligned mode size align before after (Err align_refusal.TooLarge) same bad large entered made leaves kept slots =
+Makes-aligned mode size align before after (Err align_refusal.TooLarge) same bad large entered given_so leaves kept slots =
     Makes-refused mode size before after made.TooLarge (entry.TooLarge 1 size align) (rw same (large.0 refl)) (rw same refl) refl entered kept slots
-Makes-aligned mode size align before after (Err align_refusal.BadAlign) same bad large entered made leaves kept slots =
+Makes-aligned mode size align before after (Err align_refusal.BadAlign) same bad large entered given_so leaves kept slots =
     Makes-refused mode size before after made.BadAlign (entry.BadAlign align) (rw same (bad.0 refl)) (rw same refl) refl entered kept slots
 
 -- and its bytes

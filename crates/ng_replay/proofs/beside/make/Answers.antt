@@ -29,7 +29,7 @@ returns-then-mode-clause-made g c =
 
 pub returns-else-mode-clause-made : goal.returns-else-mode-clause-made
 returns-else-mode-clause-made g c =
-    rw (c.outcome-2.ensures.made, c.outcome-2.ensures.block)
+    rw (c.outcome-else-mode.ensures.made, c.outcome-else-mode.ensures.block)
     (Makes-requested c.args.mode c.args.size c.args.size c.args.hand.now c.malloc.new.hand c.malloc.result (ap (λ align. unwrap_or align 16) c.in-None.is)
     c.malloc.ensures.large c.malloc.ensures.entered c.malloc.ensures.made c.malloc.ensures.leaves c.malloc.ensures.kept c.malloc.ensures.slots)
 

@@ -29,7 +29,7 @@ returns-then-mode-clause-made g c =
 
 pub returns-else-mode-clause-made : goal.returns-else-mode-clause-made
 returns-else-mode-clause-made g c =
-    rw (c.outcome-2.ensures.made, c.outcome-2.ensures.block)
+    rw (c.outcome-else-mode.ensures.made, c.outcome-else-mode.ensures.block)
     (Makes-requested c.args.mode c.args.size c.args.size c.args.hand.now c.malloc_in.new.hand c.malloc_in.result (ap (λ align. unwrap_or align 16) c.in-None.is)
     c.malloc_in.ensures.large c.malloc_in.ensures.entered c.malloc_in.ensures.made c.malloc_in.ensures.leaves c.malloc_in.ensures.kept c.malloc_in.ensures.slots)
 
