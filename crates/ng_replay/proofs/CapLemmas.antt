@@ -31,29 +31,30 @@ take_more xs i d below = let add_one : suc i ≡ i + 1 = omega arith in
 pub cap_none : (mode : Mode) → IsCapIn mode [] 0
 cap_none mode = record { asked = inl refl; greatest = λ op there. absurd (none_in op there) }
 
+-- the bytes are none, or asked by one of the ops
+abbrev IsAskedIn : Mode → List Op → ℕ → Type 0
+IsAskedIn mode ops bytes = (bytes ≡ 0) ⊎ ((o : Op) × Contains ops o × Asks mode o bytes)
+
 pub cap_more : (mode : Mode) (ops : List Op) (op : Op) (cap size : ℕ) → IsCapIn mode ops cap → (size ≡ 0) ⊎ Asks mode op size → IsCapped mode size op
     → IsCapIn mode (ops ++ op ∷ []) (max cap size)
 cap_more mode ops op cap size is asks capped = record { asked = asked; greatest = greatest }
   where
-    abbrev Asked : ℕ → Type 0
-    Asked n = (n ≡ 0) ⊎ ((o : Op) × Contains (ops ++ op ∷ []) o × Asks mode o n)
-
-    before : Asked cap
+    before : IsAskedIn mode (ops ++ op ∷ []) cap
     before = ⊎_elim
         (λ (none : cap ≡ 0). inl none)
         (λ (r : (o : Op) × Contains ops o × Asks mode o cap). inr (r.0, Contains-append_left ops (op ∷ []) r.0 r.1, r.2))
         is.asked
 
-    here : Asked size
+    here : IsAskedIn mode (ops ++ op ∷ []) size
     here = ⊎_elim
         (λ (none : size ≡ 0). inl none)
         (λ (a : Asks mode op size). inr (op, Contains-append_right ops (op ∷ []) op (itself_in op), a))
         asks
 
-    asked : Asked (max cap size)
+    asked : IsAskedIn mode (ops ++ op ∷ []) (max cap size)
     asked = ⊎_elim
-        (λ (more : cap < size). let same : size ≡ max cap size = omega arith in subst Asked same here)
-        (λ (least : size ≤ cap). let same : cap ≡ max cap size = omega arith in subst Asked same before)
+        (λ (more : cap < size). let same : size ≡ max cap size = omega arith in subst (IsAskedIn mode (ops ++ op ∷ [])) same here)
+        (λ (least : size ≤ cap). let same : cap ≡ max cap size = omega arith in subst (IsAskedIn mode (ops ++ op ∷ [])) same before)
         (cases_lt cap size)
 
     greatest : (o : Op) → Contains (ops ++ op ∷ []) o → IsCapped mode (max cap size) o

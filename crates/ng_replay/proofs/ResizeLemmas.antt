@@ -1,5 +1,6 @@
 -- What a resize tells of an op.
-use Rattle.std.proofs.Common.{◌≡◌, ◌+◌, ◌≤◌, ℕ, Bool, true, false, cond, eqb, List, length, Option, Some, None, Result, Ok, Err, IfErr, IfOk, arith, refl, ap, sym, subst, ◌∙◌}
+use Rattle.std.proofs.Common.{◌≡◌, ◌+◌, ◌≤◌, ℕ, Bool, true, false, cond, eqb, List, [], ◌∷◌, ◌++◌, length, Option, Some, None, Result, Ok, Err, IfErr, IfOk, arith, refl, ap, sym, subst, ⊎_elim, ◌∙◌}
+use Rattle.std.proofs.lemmas.Bool.{cases_Bool, eqb-true}
 use Rattle.std.specs.Prelude.{◌↔◌}
 use Rattle.ng_group.specs.Hands.{IsApart}
 use Rattle.ng_heap.specs.Keeps.{KeepsFrames}
@@ -7,6 +8,7 @@ use Rattle.ng_space.specs.Blocks.{BlockToken, HasFramed}
 use Rattle.ng_space.specs.Callers.{Caller}
 use Rattle.ng_space.specs.Leaving.{KeepsRest}
 use Rattle.ng_terms.specs.declared.entry.Entry.{Entry}
+use Rattle.ng_terms.specs.declared.entry.Entry.TheVariants as entry
 use Rattle.ng_terms.specs.declared.reply.Reply.{Reply}
 use Rattle.ng_terms.specs.declared.reply.Reply.TheVariants as reply
 use Rattle.ng_terms.specs.Heap.{IsTooLarge}
@@ -21,6 +23,10 @@ few : (here : Bool) (one more : List Entry) (spare was : ℕ) → length one ≤
 few true one more spare was single double used = omega arith
 few false one more spare was single double used = omega arith
 
+-- a block that stays is entered at its address
+same_entries : (old new size : ℕ) (rest : List Entry) → cond (eqb old new) (entry.Resize old size ∷ []) rest ≡ cond (eqb old new) (entry.Resize new size ∷ []) rest
+same_entries old new size rest = ⊎_elim (λ yes. rw (eqb-true old new yes) refl) (λ no. rw no refl) (cases_Bool (eqb old new))
+
 pub Resizes-given : (size : ℕ) (before after : Caller) (old : BlockToken) (given : Result BlockToken (BlockToken × ResizeRefusal)) (answer : Reply)
     → IsReplyTo old.at given answer → HasFramed before old
     → IfOk given (λ (new : BlockToken). IsResized size before old new after)
@@ -32,7 +38,7 @@ pub Resizes-given : (size : ℕ) (before after : Caller) (old : BlockToken) (giv
     → Resizes size before old answer (Some (left_of given)) after
 Resizes-given size before after old (Ok new) answer is framed resized large left entered others frames rest = rw is (record {
   fits = (refl, λ too. absurd (let clash : None ≡ Some TooLarge = large.1 too in cc));
-  entries = λ mode. entered.entries;
+  entries = λ mode. entered.entries ∙ ap (λ (calls : List Entry). before.entries ++ calls) (same_entries old.at new.at size (entry.Give size 16 new.at ∷ entry.Take old.at ∷ []));
   stands = refl;
   framed = resized.framed;
   others = others;

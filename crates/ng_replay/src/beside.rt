@@ -12,10 +12,10 @@ ghost use Rattle.ng_terms.specs.declared.entry.Entry.TheVariants.{Take};
 
 use crate::make::{aligned_outcome, outcome, resized_outcome};
 use crate::op::{leave, reply_to_make};
-use ng_resize::{aligned_alloc, realloc};
 use ng_heap::SharedHeap;
 use ng_mapper::Mapper;
 use ng_policy::Rules;
+use ng_resize::{aligned_alloc, realloc};
 use ng_space::{Block, Hand, Name};
 use ng_terms::{Made, Mode, Op, Origin, Reply};
 use std::sync::Wait;

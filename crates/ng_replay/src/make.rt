@@ -6,11 +6,11 @@ ghost use Rattle.ng_resize.specs.Refusals.{damage_told};
 ghost use Rattle.ng_space.specs.Blocks.{OfSlot};
 ghost use Rattle.ng_terms.specs.Calls.{align_of};
 
-use ng_resize::{AlignRefusal, ResizeRefusal, aligned_in};
 use ng_group::Core;
 use ng_heap::{AllocRefusal, Heap};
 use ng_mapper::Mapper;
 use ng_policy::Rules;
+use ng_resize::{AlignRefusal, ResizeRefusal, aligned_in};
 use ng_space::{Block, Hand, Name};
 use ng_terms::{Made, Mode, Reply};
 

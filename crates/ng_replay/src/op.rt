@@ -9,11 +9,11 @@ ghost use Rattle.ng_terms.specs.Heap.{large};
 ghost use Rattle.ng_terms.specs.declared.entry.Entry.TheVariants.{Take};
 
 use crate::make::{make, resized_outcome};
-use ng_resize::realloc_in;
 use ng_group::Core;
 use ng_heap::Heap;
 use ng_mapper::Mapper;
 use ng_policy::Rules;
+use ng_resize::realloc_in;
 use ng_space::{Block, Hand, Name};
 use ng_terms::{Made, Mode, Op, Origin, Reply};
 

@@ -1,8 +1,20 @@
-use Rattle.std.proofs.Common.{subst, sym}
+use Rattle.std.proofs.Common.{inl, refl, subst, sym}
 use Rattle.ng_space.specs.Blocks.{HasFramed}
 use Rattle.ng_replay.specs.Serving.{IsApartFrom}
 use Rattle.ng_replay.proofs.MoveLemmas.{HasFramed-kept, IsApartFrom-fresh}
 use Rattle.ng_replay.proofs.op.do_op.Goals as goal
+
+pub make-made-requires-clause-cap : goal.make-made-requires-clause-cap
+make-made-requires-clause-cap g c = rw c.in-Make.is at c.requires.cap
+
+pub make-made-requires-in-None-clause-cap : goal.make-made-requires-in-None-clause-cap
+make-made-requires-in-None-clause-cap g c = rw c.in-Move.is at c.requires.cap
+
+pub move_from-requires-clause-cap : goal.move_from-requires-clause-cap
+move_from-requires-clause-cap g c = (rw c.in-Move.is at c.requires.cap) c.in-Move.size (inl refl)
+
+pub returns-in-Free-clause-entries : goal.returns-in-Free-clause-entries
+returns-in-Free-clause-entries g c = rw c.in-Free.is (c.free.ensures.entries c.args.mode)
 
 pub returns-in-Make-clause-others : goal.returns-in-Make-clause-others
 returns-in-Make-clause-others g c =
@@ -18,8 +30,8 @@ returns-in-Some-clause-others g c =
     λ other apart f. c.move_from.ensures.others other (subst (λ source. IsApartFrom source other) c.in-Some.is apart) f
 
 pub returns-in-None-clause-others : goal.returns-in-None-clause-others
-returns-in-None-clause-others g c = λ other apart f. HasFramed-kept _ _ c.make-made-2.ensures.made.frames.number c.make-made-2.ensures.made.slots other f
+returns-in-None-clause-others g c = λ other apart f. HasFramed-kept _ _ c.make-made-in-None.ensures.made.frames.number c.make-made-in-None.ensures.made.slots other f
 
 pub returns-in-None-clause-apart : goal.returns-in-None-clause-apart
 returns-in-None-clause-apart g c =
-    λ other apart f. IsApartFrom-fresh c.args.hand.now c.make-made-2.result.1 other c.make-made-2.ensures.made.fresh f
+    λ other apart f. IsApartFrom-fresh c.args.hand.now c.make-made-in-None.result.1 other c.make-made-in-None.ensures.made.fresh f
