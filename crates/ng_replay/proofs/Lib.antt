@@ -20,3 +20,4 @@ pub mod EndLemmas
 pub mod CapLemmas
 pub mod MakeLemmas
 pub mod ResizeLemmas
+pub mod StayLemmas

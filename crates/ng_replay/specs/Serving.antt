@@ -1,9 +1,9 @@
 -- What a heap's calls enter, and which blocks live after them.
-use Rattle.std.specs.Prelude.{◌≡◌, ◌⊎◌, ℕ, ◌+◌, ◌≤◌, ◌++◌, Option, Some, None, Result, Ok, Err, IfSome}
+use Rattle.std.specs.Prelude.{◌≡◌, ◌⊎◌, ℕ, ◌+◌, ◌<◌, ◌≤◌, ◌↔◌, ◌++◌, min, Option, Some, None, Result, Ok, Err, IfSome}
 use Rattle.ng_group.specs.Hands.{IsApart}
 use Rattle.ng_heap.specs.Keeps.{IsFresh, KeepsFrames}
 use Rattle.ng_mapper.specs.declared.refusals.Refusals.{Refusals}
-use Rattle.ng_space.specs.Blocks.{BlockToken, HasFramed}
+use Rattle.ng_space.specs.Blocks.{BlockToken, HasFramed, OfSlot}
 use Rattle.ng_space.specs.Callers.{Caller}
 use Rattle.ng_space.specs.Leaving.{KeepsRest, KeepsSlots}
 use Rattle.ng_terms.specs.declared.plan.Plan.{Plan}
@@ -15,6 +15,11 @@ use Rattle.ng_terms.specs.declared.reply.Mode.{Mode}
 use Rattle.ng_terms.specs.declared.reply.Reply.{Reply}
 use Rattle.ng_terms.specs.declared.reply.Reply.TheVariants as reply
 use Rattle.ng_terms.specs.Accounts.{Counts, IsAsked}
+use Rattle.ng_terms.specs.Heap.{large}
+use Rattle.ng_terms.specs.declared.plan.Op.{Op}
+use Rattle.ng_terms.specs.declared.plan.Op.TheVariants as op
+use Rattle.ng_resize.specs.Fitting.{StaysInPlace}
+use Rattle.ng_resize.specs.Moving.{KeepsFirst}
 use Rattle.ng_resize.specs.declared.refusal.AlignRefusal.{AlignRefusal}
 use Rattle.ng_resize.specs.declared.refusal.AlignRefusal.TheVariants as align_refusal
 use Rattle.ng_resize.specs.declared.refusal.ResizeRefusal.{ResizeRefusal}
@@ -94,3 +99,25 @@ pub record Resizes (size : ℕ) (before : Caller) (old : BlockToken) (answer : R
   pub frames : KeepsFrames before after
   pub rest : KeepsRest before.view after.view
   pub spare : before.spare ≤ after.spare + 2
+
+-- the op makes a block: it is a make, or a move that has no block to move
+abbrev pub IsMaking : Option BlockToken → Op → Type 0
+IsMaking source (op.Make name size to) = Unit {0}
+IsMaking source (op.Free name origin) = ⊥
+IsMaking None (op.Move old name origin size to) = Unit {0}
+IsMaking (Some block) (op.Move old name origin size to) = ⊥
+
+-- so it is of the block that the op moves, if it moves one, and of the size that it asks for
+abbrev pub OnMove : Option BlockToken → Op → (BlockToken → ℕ → Type 0) → Type 0
+OnMove source (op.Make name size to) P = Unit {0}
+OnMove source (op.Free name origin) P = Unit {0}
+OnMove None (op.Move old name origin size to) P = Unit {0}
+OnMove (Some block) (op.Move old name origin size to) P = P block size
+
+-- the block got its new length where it stands exactly if the rule says so
+abbrev pub StaysByRule : Caller → Reply → BlockToken → ℕ → Type 0
+StaysByRule before answer old size = size < large → OfSlot before old.slot (λ h. (answer ≡ reply.Moved old.at old.at) ↔ StaysInPlace size old h)
+
+-- where it got another length, its first known bytes are known of the block that stands now
+abbrev pub KeepsBytesOf : Caller → Reply → Option BlockToken → Caller → BlockToken → ℕ → Type 0
+KeepsBytesOf before answer block after old size = (at : ℕ) → answer ≡ reply.Moved old.at at → IfSome block (KeepsFirst (min old.len size) before old after)

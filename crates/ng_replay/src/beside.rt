@@ -3,7 +3,7 @@ ghost use Rattle.std.specs.Prelude.{◌≡◌, ◌+◌, ◌<◌, ◌≤◌, ◌+
 ghost use Rattle.ng_space.specs.Leaving.{KeepsOthers, KeepsRest};
 ghost use Rattle.ng_heap.specs.Keeps.{KeepsFrames};
 ghost use Rattle.ng_replay.specs.Caps.{IsCapped, IsSizeCapped};
-ghost use Rattle.ng_replay.specs.Serving.{IsApartFrom, Makes, Resizes, at_of};
+ghost use Rattle.ng_replay.specs.Serving.{IsApartFrom, IsMaking, KeepsBytesOf, Makes, OnMove, Resizes, StaysByRule, at_of};
 ghost use Rattle.ng_bytes.specs.Contents.{AreZero};
 ghost use Rattle.ng_space.specs.Blocks.{BlockToken, HasFramed, OfSlot};
 ghost use Rattle.ng_terms.specs.Calls.{FitsOp, calls_for, calls_of, reply_of, reply_of_free, standing};
@@ -37,6 +37,9 @@ pub fn do_op<N: Name, M: Mapper, P: Rules, R: Wait>(
     ensures entries { hand.new.entries ≡ hand.old.entries ++ calls_of mode op.now result.0 }
     ensures stands { at_of result.1 ≡ standing result.0 }
     ensures framed { IfSome result.1 (HasFramed hand.new) }
+    ensures zeroed { IsMaking source op.now → mode.align ≡ None → IsTrue mode.zero → IfSome result.1 (λ block. OfSlot hand.new block.slot (AreZero block.at block.len)) }
+    ensures stays { OnMove source op.now (StaysByRule hand.old result.0) }
+    ensures kept { OnMove source op.now (KeepsBytesOf hand.old result.0 result.1 hand.new) }
 
     // The other blocks of the hand stay, and the block that stands now is apart from them.
     ensures others { (other : BlockToken) → IsApartFrom source other → HasFramed hand.old other → HasFramed hand.new other }
@@ -170,7 +173,9 @@ fn move_from<N: Name, M: Mapper, P: Rules, R: Wait>(
     requires room { 2 ≤ hand.old.spare }
     requires cap { size < large → size ≤ N.facts.start.cap }
     requires framed { HasFramed hand.old old }
-    ensures { Resizes size hand.old old result.0 result.1 hand.new }
+    ensures resizes { Resizes size hand.old old result.0 result.1 hand.new }
+    ensures stays { StaysByRule hand.old result.0 old size }
+    ensures kept { KeepsBytesOf hand.old result.0 result.1 hand.new old size }
 {
     let at = old.at();
     resized_outcome(at, realloc(heap, rt, hand, old, size))
