@@ -27,8 +27,10 @@ pub stays-told : (size : ℕ) (before : Caller) (old : BlockToken) (given : Resu
 stays-told size before old (Ok new) answer is framed stays place =
     λ small h found.
     let rule : (Ok new ≡ Ok (with_len size old)) ↔ StaysInPlace size old h = stays small framed h found in
-    rw is (λ moved. rule.0 (⊎_elim (λ (same : new ≡ with_len size old). ap Ok same) (λ (away : new.at ≢ old.at). absurd (away (cc))) place),
-    λ fits. let told : Ok new ≡ Ok (with_len size old) = rule.1 fits in let same : new ≡ with_len size old = cc in ap (λ (b : BlockToken). reply.Moved old.at b.at) same)
+    rw is (
+      λ moved. rule.0 (⊎_elim (λ (same : new ≡ with_len size old). ap Ok same) (λ (away : new.at ≢ old.at). absurd (away (cc))) place),
+      λ fits. let told : Ok new ≡ Ok (with_len size old) = rule.1 fits in let same : new ≡ with_len size old = cc in ap (λ (b : BlockToken). reply.Moved old.at b.at) same,
+    )
 stays-told size before old (Err (block, NoMemory excuse)) answer is framed stays place =
     λ small h found.
     let rule : (Err (block, NoMemory excuse) ≡ Ok (with_len size old)) ↔ StaysInPlace size old h = stays small framed h found in

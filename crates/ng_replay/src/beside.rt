@@ -20,8 +20,8 @@ use ng_space::{Block, Hand, Name};
 use ng_terms::{Made, Mode, Op, Origin, Reply};
 use std::sync::Wait;
 
-/// Does an op by its log's hand, beside other logs. `source` is the block that the op takes; one that it doesn't take stays in the hand. Beside
-/// the reply comes the block that stands for the op then.
+/// Does an op by its log's hand, beside other logs. `source` is the block that the op takes; one that it
+/// doesn't take stays in the hand. Beside the reply comes the block that stands for the op then.
 pub fn do_op<N: Name, M: Mapper, P: Rules, R: Wait>(
     rt: &R,
     heap: &SharedHeap<N, M, P>,

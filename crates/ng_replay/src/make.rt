@@ -40,9 +40,7 @@ pub fn make<N: Name, M: Mapper, P: Rules>(
 }
 
 /// What a request came to, and its block.
-pub(crate) fn outcome<N: Name>(
-    given: Result<Block<N>, AllocRefusal>,
-) -> (Made, Option<Block<N>>)
+pub(crate) fn outcome<N: Name>(given: Result<Block<N>, AllocRefusal>) -> (Made, Option<Block<N>>)
     ensures made { result.0 ≡ made_of given }
     ensures block { result.1 ≡ block_of given }
 {

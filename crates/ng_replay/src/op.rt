@@ -18,8 +18,8 @@ use ng_resize::realloc_in;
 use ng_space::{Block, Hand, Name};
 use ng_terms::{Made, Mode, Op, Origin, Reply};
 
-/// Does an op by its log's hand. `source` is the block that the op takes; one that it doesn't take stays in the hand. Beside
-/// the reply comes the block that stands for the op then.
+/// Does an op by its log's hand. `source` is the block that the op takes; one that it doesn't take stays
+/// in the hand. Beside the reply comes the block that stands for the op then.
 pub fn do_op<N: Name, M: Mapper, P: Rules>(
     heap: &Heap<N>,
     core: &mut Core<N, M, P>,

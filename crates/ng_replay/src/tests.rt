@@ -77,7 +77,11 @@ fn rooms(alloc: Global, plan: &Plan) -> Result<Vec<u64>, Fail>
 }
 
 // The memory of a heap with a hand for each log and of its core, and a mapper that refuses no call.
-pub(crate) fn parts(alloc: Global, plan: &Plan, mode: Mode) -> Result<(Blank, Tables, FirstFit), Fail>
+pub(crate) fn parts(
+    alloc: Global,
+    plan: &Plan,
+    mode: Mode,
+) -> Result<(Blank, Tables, FirstFit), Fail>
     ensures { IfOk result (λ made. AreParts plan.now mode made.0 made.1 made.2) }
 {
     let start = Start {
@@ -152,9 +156,7 @@ fn done<R: Abort>(
     let plan = plan_of(alloc, logs)?;
     let (blank, tables, mapper) = parts(alloc, &plan, mode)?;
     let rules = Policy::new(count, keep);
-    Ok(replayed::<Brand, _, _>(
-        rt, alloc, &plan, mode, blank, tables, mapper, rules,
-    ))
+    Ok(replayed::<Brand, _, _>(rt, alloc, &plan, mode, blank, tables, mapper, rules))
 }
 
 #[test]
@@ -243,7 +245,10 @@ fn a_resized_block_goes_to_another_log(rt: HostRuntime) -> Result<(), Fail> {
         replies[1].as_slice(),
         [Reply::Freed { at: 0x2040 }, Reply::Given { at: 0x2040 }].as_slice()
     );
-    assert_eq!(rt; books[0].entries(), [give(0x14, 0x2040), resized].as_slice());
+    assert_eq!(rt;
+        books[0].entries(),
+        [give(0x14, 0x2040), resized].as_slice()
+    );
     assert_eq!(rt; books[1].entries(), taker.as_slice());
     Ok(())
 }
@@ -263,7 +268,10 @@ fn a_make_is_zeroed_by_the_mode(rt: HostRuntime) -> Result<(), Fail> {
     let (replies, books) = done(&rt, alloc, logs, mode)?;
     assert_eq!(rt; replies.len(), 1);
     assert_eq!(rt; books.len(), 1);
-    assert_eq!(rt; replies[0].as_slice(), [Reply::Given { at: 0x2040 }].as_slice());
+    assert_eq!(rt;
+        replies[0].as_slice(),
+        [Reply::Given { at: 0x2040 }].as_slice()
+    );
     assert_eq!(rt; books[0].entries(), [give(0x14, 0x2040)].as_slice());
     Ok(())
 }
@@ -288,7 +296,10 @@ fn a_make_is_aligned_by_the_mode(rt: HostRuntime) -> Result<(), Fail> {
     };
     assert_eq!(rt; replies.len(), 1);
     assert_eq!(rt; books.len(), 1);
-    assert_eq!(rt; replies[0].as_slice(), [Reply::Given { at: 0x20_0000 }].as_slice());
+    assert_eq!(rt;
+        replies[0].as_slice(),
+        [Reply::Given { at: 0x20_0000 }].as_slice()
+    );
     assert_eq!(rt; books[0].entries(), [given].as_slice());
     Ok(())
 }

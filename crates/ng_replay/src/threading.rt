@@ -21,8 +21,9 @@ use ng_terms::{Items, Mode, Plan, Reply};
 use std::sync::Wait;
 use std::thread::Threads;
 
-/// Does the ops of each log of a plan by a worker of its own, beside each other, and makes blocks by the mode. A worker whose thread can't be made is run by
-/// the caller. A block that is still live at the end stays in the hand of its log. It takes no memory.
+/// Does the ops of each log of a plan by a worker of its own, beside each other, and makes blocks by the
+/// mode. A worker whose thread can't be made is run by the caller. A block that is still live at the end
+/// stays in the hand of its log. It takes no memory.
 pub fn threads<
     R: Threads + Wait + Sync,
     N: Name + Send + Sync,

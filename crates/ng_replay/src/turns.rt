@@ -21,8 +21,8 @@ use ng_policy::Rules;
 use ng_space::{Block, Hand, Name};
 use ng_terms::{Items, Mode, Op, Plan, Reply};
 
-/// Does the ops of a plan in the order of its turns, each by its log's hand, and makes blocks by the mode. A block that is still live at the end stays in
-/// the hand of its log. It takes no memory.
+/// Does the ops of a plan in the order of its turns, each by its log's hand, and makes blocks by the
+/// mode. A block that is still live at the end stays in the hand of its log. It takes no memory.
 pub fn serial<N: Name, M: Mapper, P: Rules>(
     heap: &Heap<N>,
     core: &mut Core<N, M, P>,
@@ -109,7 +109,8 @@ fn serve<N: Name, M: Mapper, P: Rules>(
     row.push_reserved(reply);
 }
 
-/// Does an op of a log by the log's hand. The block that stands for it goes to the log's others, or off under its number.
+/// Does an op of a log by the log's hand. The block that stands for it goes to the log's others, or off
+/// under its number.
 fn serve_op<N: Name, M: Mapper, P: Rules>(
     heap: &Heap<N>,
     core: &mut Core<N, M, P>,

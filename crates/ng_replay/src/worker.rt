@@ -30,7 +30,8 @@ pub struct Worker<N: Name> {
     pub(crate) replies: Vec<Reply>,
 }
 
-/// Does an op of a log by the log's hand. The block that stands for it goes to the log's others, or off under its number.
+/// Does an op of a log by the log's hand. The block that stands for it goes to the log's others, or off
+/// under its number.
 fn serve_op<N: Name, M: Mapper, P: Rules, R: Wait>(
     rt: &R,
     heap: &SharedHeap<N, M, P>,
