@@ -18,3 +18,6 @@ pub mod CrewLemmas
 pub mod MailLemmas
 pub mod EndLemmas
 pub mod CapLemmas
+pub mod MakeLemmas
+pub mod ResizeLemmas
+pub mod StayLemmas

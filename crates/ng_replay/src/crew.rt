@@ -8,7 +8,8 @@ use ng_space::{Block, Hand, Name};
 use ng_terms::{Host, Items, Plan, Reply};
 use std::alloc::{AllocError, Global};
 
-/// A worker for each log of a plan, and room for what the workers leave: all memory of a replay beside each other.
+/// A worker for each log of a plan, and room for what the workers leave: all memory of a replay beside
+/// each other.
 pub struct Crew<N: Name> {
     pub(crate) workers: Vec<Worker<N>>,
     /// Where the hands and the doors come to lie again.
@@ -29,8 +30,8 @@ struct Places<N: Name> {
 }
 
 impl<N: Name> Crew<N> {
-    /// Makes the crew of a plan, of one hand and one door for each log. Where the host has too little memory, the hands come
-    /// back.
+    /// Makes the crew of a plan, of one hand and one door for each log. Where the host has too little
+    /// memory, the hands come back.
     pub fn open(
         alloc: Global,
         plan: &Plan,

@@ -54,8 +54,8 @@ pub fn take_source<N: Name, R: Wait>(
     }
 }
 
-/// Posts the block that stands for an op, or nothing, if the plan hands it off. The block comes back where it stays with the
-/// log.
+/// Posts the block that stands for an op, or nothing, if the plan hands it off. The block comes back
+/// where it stays with the log.
 pub fn hand_off<N: Name, R: Wait>(
     rt: &R,
     heap: &Heap<N>,

@@ -6,8 +6,8 @@ use ng_space::{Block, Name};
 use ng_terms::{Host, Items, Op, Plan, Reply};
 use std::alloc::{AllocError, Global};
 
-/// Room for the replies to a plan's ops, for the blocks that stand for them, and for the blocks on their way between logs,
-/// all taken before the first heap call.
+/// Room for the replies to a plan's ops, for the blocks that stand for them, and for the blocks on their
+/// way between logs, all taken before the first heap call.
 pub struct Room<N: Name> {
     /// Room for the replies to the ops of each log.
     pub(crate) rows: Vec<Vec<Reply>>,

@@ -44,7 +44,8 @@ pub fn take_source<N: Name>(
     }
 }
 
-/// Sends the block that stands for an op off, if it is to be. The block comes back where it stays with the log.
+/// Sends the block that stands for an op off, if it is to be. The block comes back where it stays with
+/// the log.
 pub fn hand_off<N: Name>(
     heap: &Heap<N>,
     hand: &mut Hand<N>,

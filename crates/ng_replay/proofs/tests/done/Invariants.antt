@@ -1,5 +1,5 @@
 use Rattle.std.specs.Prelude.{length}
-use Rattle.ng_replay.proofs.tests.a_log_moves_a_block.Given as goal
+use Rattle.ng_replay.proofs.tests.done.Given as goal
 
 -- the heap that was just made
 abbrev pub ghosts-replayed : goal.ghosts-replayed
