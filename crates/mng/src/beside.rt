@@ -75,7 +75,15 @@ pub fn run_beside<
     match Crew::open(alloc, &prepared.plan, hands, doors) {
         Ok(crew) => {
             let shared = SharedHeap::new(heap, core);
-            let (hands, replies) = threads(rt, &shared, boxes, crew, &prepared.plan, prepared.mode, gate);
+            let (hands, replies) = threads(
+                rt,
+                &shared,
+                boxes,
+                crew,
+                &prepared.plan,
+                prepared.mode,
+                gate,
+            );
             let (heap, core) = shared.parts();
             ended(heap, core, hands, replies, prepared, closed, out)
         }

@@ -35,7 +35,12 @@ pub struct Fresh {
 
 impl Fresh {
     /// Takes the memory of a heap for a plan under a mode, over a mapper.
-    pub fn for_plan<M: Mapper>(alloc: Global, plan: &Plan, mode: Mode, mapper: &M) -> Result<Fresh, Host>
+    pub fn for_plan<M: Mapper>(
+        alloc: Global,
+        plan: &Plan,
+        mode: Mode,
+        mapper: &M,
+    ) -> Result<Fresh, Host>
         requires few { length plan.now.logs ≤ 16 }
         requires short { op_count plan.now.logs ≤ 1000000 }
         requires least { 16 ≤ (M.span mapper.now).size }

@@ -59,7 +59,14 @@ pub fn run<N: Name, O: Sink, M: Mapper, P: Rules + Drop>(
     };
     match Room::for_plan(alloc, &prepared.plan) {
         Ok(room) => {
-            let replies = serial(&heap, &mut core, &mut hands, &prepared.plan, prepared.mode, room);
+            let replies = serial(
+                &heap,
+                &mut core,
+                &mut hands,
+                &prepared.plan,
+                prepared.mode,
+                room,
+            );
             ended(heap, core, hands, replies, prepared, closed, out)
         }
         Err(Host) => {
