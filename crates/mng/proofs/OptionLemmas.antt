@@ -1,15 +1,13 @@
 -- What options add, one by one.
 use Rattle.std.proofs.Common.{◌≡◌, ℕ, ◌+◌, Bool, true, false, List, [], ◌∷◌, Option, Some, None, refl, sym, ap, subst, ◌∙◌, arith, cond}
-use Rattle.std.specs.Prelude.{count_by, is_some}
-use Rattle.std.specs.Option.{option_and_then, unwrap_or}
+use Rattle.std.specs.Prelude.{count_by}
+use Rattle.std.specs.Option.{unwrap_or}
 use Rattle.std.specs.List.{filter_map}
 use Rattle.std.proofs.lemmas.List.Sums.{sum_by-cons}
 use Rattle.ng_script.specs.Numbers.{number_of}
 use Rattle.mng.specs.Words.{Choice, is_calls, is_zero, pages_text, refuse_text, align_text, IsAlign, IsPages, IsList, MeansAtMostOne}
 use Rattle.mng.specs.Words.Choice.{Calls, Zero, Pages, Refuse, Align}
-use Rattle.mng.specs.Givens.{pages_of, list_of, calls_added, zero_added, pages_added, refuse_added, align_added}
 use Rattle.mng.specs.declared.asked.Given.{Given}
-use Rattle.mng.proofs.ListLemmas.{IsList-from_Some, list_of-is, IsPages-from_Some, pages_of-is}
 
 -- a text for each value of a kind: none where it has one already, and at most one
 abbrev pub Adds : {A : Type 0} → (List ℕ → A → Type 0) → Option A → List (List ℕ) → Option A → Type 0

@@ -7,7 +7,7 @@ use Rattle.std.specs.Str.{bytes_eq}
 use Rattle.std.proofs.lemmas.List.{take_all}
 use Rattle.std.proofs.lemmas.Slice.Eq.{bytes_eq-Decides}
 use Rattle.ng_terms.specs.declared.reply.Mode.{Mode}
-use Rattle.mng.specs.Words.{texts_of, name_of, words_of, is_calls, is_zero, pages_text, refuse_text, align_text, plain, IsAlign, IsPages, IsList, MayAsk, MeansAtMostOne, Asked, AsksReport, AsksSpace, InLanguage, IsCommand}
+use Rattle.mng.specs.Words.{texts_of, name_of, words_of, is_calls, is_zero, pages_text, refuse_text, align_text, plain, IsPages, IsList, MayAsk, MeansAtMostOne, Asked, AsksReport, AsksSpace, InLanguage, IsCommand}
 use Rattle.mng.specs.Givens.{allowed, takes, mode_of, nothing, is_flag, flag_added, pair_added, options_added, given_of}
 use Rattle.mng.specs.declared.asked.Given.{Given}
 use Rattle.mng.specs.declared.verb.Verb.{Verb}

@@ -1,7 +1,7 @@
 -- The command-line language.
-use Rattle.std.specs.Prelude.{◌≡◌, ℕ, ◌^◌, ◌≤◌, Bool, true, false, List, ◌∷◌, [], ◌==◌, ◌&&◌, String, codes, if◌then◌else◌, All, length, drop, map, count_by, nat_le, nat_lt, nat_eq, string_bytes, Option, Some, None}
+use Rattle.std.specs.Prelude.{◌≡◌, ℕ, ◌≤◌, Bool, true, false, List, ◌∷◌, [], ◌==◌, String, codes, if◌then◌else◌, All, length, map, count_by, string_bytes, Option, Some, None}
 use Rattle.std.specs.Str.{bytes_eq}
-use Rattle.std.specs.List.{filter_map, flat_map, list_all, slice_split, starts_with}
+use Rattle.std.specs.List.{filter_map, flat_map, slice_split}
 use Rattle.std.specs.declared.alloc.Global.{Global}
 use Rattle.ng_script.specs.Numbers.{number_of}
 use Rattle.ng_terms.specs.declared.reply.Mode.{Mode}

@@ -1,4 +1,4 @@
-use Rattle.std.proofs.Common.{◌≡◌, ◌∙◌, sym, true, false, Some, string_bytes}
+use Rattle.std.proofs.Common.{◌≡◌, ◌∙◌, true, false, Some, string_bytes}
 use Rattle.mng.specs.Givens.{flag_added, is_flag, pair_added}
 use Rattle.mng.proofs.WordLemmas.{options_added-one, options_added-two}
 use Rattle.mng.proofs.words.+with_options.Goals as goal
