@@ -15,9 +15,9 @@ use Rattle.mng.specs.declared.status.Status.{Status}
 use Rattle.mng.specs.declared.status.Status.TheVariants.{Done, Usage, ReadFault, BadLine, Limit, NoLog, WriteFault, Host}
 use Rattle.mng.specs.declared.verb.Verb.{Verb}
 
--- a run of a plan under a mode in a mapper's space: the heap that was closed has the pages of the space, and replies and books with which
--- its account holds, the books numbered by the logs from 1 on; its words are a lawful image that goes with the same history,
--- and this text is the report of the replies
+-- a run of a plan under a mode in a mapper's space: the heap that was closed has the pages of the space, and replies and books
+-- with which its account holds, the books numbered by the logs from 1 on; its words are a lawful image that goes with the same
+-- history, and this text is the report of the replies
 pub record Runs (plan : Plan) (mode : Mode) (calls_shown : Bool) (span : Span) (before now : Counts) (live : List mapper.Run) (closed : List Closed) (text : List ℕ) : Type 0 where
   pub heap : Closed
   pub one : closed ≡ heap ∷ []

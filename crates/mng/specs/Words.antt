@@ -122,9 +122,9 @@ pub record IsCommand (verb : Verb) (texts : List (List ℕ)) (asked : Asked) : T
   pub calls_shown : count_by is_calls options ≡ (if asked.calls_shown then 1 else 0)
   pub zero : count_by is_zero options ≡ (if asked.mode.zero then 1 else 0)
   pub align : MeansAtMostOne IsAlign None (filter_map align_text options) asked.mode.align
-  pub may_ask : MayAsk verb asked.calls_shown asked.mode
   pub pages : MeansAtMostOne IsPages 4096 (filter_map pages_text options) asked.pages
   pub refuse : MeansAtMostOne IsList [] (filter_map refuse_text options) asked.refuse
+  pub may_ask : MayAsk verb asked.calls_shown asked.mode
 
 -- the texts are those of this command
 pub record InLanguage (verb : Verb) (texts : List (List ℕ)) : Type 0 where
