@@ -100,7 +100,7 @@ standing_still before after held blocks number keeps are = record {
 
 -- ---- a block that is given
 pub standing_more : (before after : Caller) (held : List BlockToken) (blocks : List Standing) (n : ℕ) (block : BlockToken) → after.number ≡ before.number
-    → KeepsSlots before.view after.view → IsMade n before block after → AreStanding before held blocks
+    → KeepsSlots before.view after.view → IsMade n 16 before block after → AreStanding before held blocks
     → AreStanding after (held ++ block ∷ []) (fresh block.at (gap_of block) n ∷ blocks)
 standing_more before after held blocks n block number keeps made are = record {
   each = λ k d lt. ⊎_elim

@@ -35,7 +35,7 @@ use Rattle.ng_drill.proofs.TellingLemmas.{told_either}
 
 -- ---- m
 -- no block that is held has the address of one that was made
-pub none_made : (before after : Caller) (held : List BlockToken) (blocks : List Standing) (n : ℕ) (block : BlockToken) → AreStanding before held blocks → IsMade n before block after → HasNoneAt held block.at
+pub none_made : (before after : Caller) (held : List BlockToken) (blocks : List Standing) (n : ℕ) (block : BlockToken) → AreStanding before held blocks → IsMade n 16 before block after → HasNoneAt held block.at
 none_made before after held blocks n block are made k d lt = made.apart (get_or held k d) (are.each k d lt).stands.has
 
 -- a request that isn't told to be too large isn't
@@ -43,7 +43,7 @@ pub small_unless : {A : Type 0} (n : ℕ) (result : Result A AllocRefusal) → (
 small_unless n result told not_so = ⊎_elim (λ (lt : n < large). lt) (λ (le : large ≤ n). absurd (not_so (told (inr (omega arith))))) (cases_lt n large)
 
 malloc_given_at : {N : Type 0} (pages name n : ℕ) (before after : Caller) (desk left : Desk N) (block : BlockToken) → block.at ≤ block.slot.end → block.slot.end + 4 ≤ 4096 * pages → after.number ≡ before.number → KeepsSlots before.view after.view
-    → IsMade n before block after → n < large → left.names.items ≡ set desk.names.items name (Some block.at) → left.held.items ≡ desk.held.items ++ block ∷ []
+    → IsMade n 16 before block after → n < large → left.names.items ≡ set desk.names.items name (Some block.at) → left.held.items ≡ desk.held.items ++ block ∷ []
     → Steps pages (command.Malloc name n) (answer.Malloc (Given block.at)) before desk after left
 malloc_given_at {N} pages name n before after desk left block ends inside number keeps made small names held state s =
     let within = made.framed.framed.4.within in
@@ -66,7 +66,7 @@ malloc_given_at {N} pages name n before after desk left block ends inside number
     )
 
 pub malloc_given : {N : Type 0} (pages name n at : ℕ) (before after : Caller) (desk left : Desk N) (block : BlockToken) → at ≡ block.at → block.at ≤ block.slot.end → block.slot.end + 4 ≤ 4096 * pages → after.number ≡ before.number → KeepsSlots before.view after.view
-    → IsMade n before block after → n < large → left.names.items ≡ set desk.names.items name (Some at) → left.held.items ≡ desk.held.items ++ block ∷ []
+    → IsMade n 16 before block after → n < large → left.names.items ≡ set desk.names.items name (Some at) → left.held.items ≡ desk.held.items ++ block ∷ []
     → Steps pages (command.Malloc name n) (answer.Malloc (Given at)) before desk after left
 malloc_given {N} pages name n at before after desk left block same ends inside number keeps made small names held =
     subst (λ a. Steps pages (command.Malloc name n) (answer.Malloc (Given a)) before desk after left) (sym same)

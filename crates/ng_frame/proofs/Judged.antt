@@ -1,23 +1,19 @@
 -- The verdict on a block's frame, by the words that were loaded of it.
 use Rattle.ng_view.specs.Lists.{Among}
-use Rattle.std.proofs.Common.{◌≡◌, ℕ, ◌+◌, ◌-◌, ◌*◌, ◌/◌, ◌%◌, ◌^◌, ◌<◌, ◌≤◌, cond, true, List, ◌∷◌, sym, ap, ◌∙◌, subst, inl, inr, refl, arith, leb, ◌&&◌, le-leb, ⊎_elim, ◌⊎◌, Bool, false}
+use Rattle.std.proofs.Common.{◌≡◌, ℕ, ◌+◌, ◌-◌, ◌*◌, ◌/◌, ◌%◌, ◌<◌, ◌≤◌, cond, true, ◌∷◌, sym, ap, ◌∙◌, subst, inl, inr, refl, arith, ◌&&◌, le-leb, ⊎_elim, ◌⊎◌, Bool, false}
 use Rattle.std.specs.Prelude.{Option, Some, Ok, Result}
 use Rattle.ng_header.specs.Bytes.{byte_of}
 use Rattle.ng_header.specs.Reading.{reserved_in}
 use Rattle.ng_header.specs.declared.reading.NominalFault.{NominalFault}
 use Rattle.ng_view.specs.Blocks.{Knows}
-use Rattle.ng_view.specs.Lists.{find}
 use Rattle.ng_view.specs.Places.{Owns, owns_at, slot_start, stride}
-use Rattle.ng_view.specs.Steps.{learnt, loaded}
+use Rattle.ng_view.specs.Steps.{learnt}
 use Rattle.ng_view.specs.declared.view.Held.{Held}
 use Rattle.ng_view.specs.declared.view.Place.{Place}
-use Rattle.ng_view.specs.declared.view.View.{View}
-use Rattle.ng_space.specs.Blocks.{BlockToken, HasBlock}
-use Rattle.ng_space.specs.Callers.{Caller}
-use Rattle.ng_space.proofs.Holding.{find-loaded}
+use Rattle.ng_space.specs.Blocks.{BlockToken}
 use Rattle.ng_space.proofs.Leaving.{learns_cell}
 use Rattle.ng_space.specs.Tokens.{LiesAt, Token}
-use Rattle.ng_frame.specs.Inspects.{field_in, fifth_in, gap_of, looked, number_in}
+use Rattle.ng_frame.specs.Inspects.{field_in, fifth_in, gap_of, number_in}
 use Rattle.ng_frame.specs.Judging.{AreSure, IsJudged, IsSure, IsSureByte, verdict_by}
 use Rattle.ng_frame.specs.Puts.{IsWhole}
 use Rattle.ng_frame.specs.declared.words.Words.{Words}

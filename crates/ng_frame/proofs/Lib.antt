@@ -6,3 +6,9 @@ pub mod Lengths
 pub mod Tokens
 pub mod Judged
 pub mod Verdicts
+pub mod Places
+pub mod Besides
+pub mod Tails
+pub mod Resizes
+pub mod Locations
+pub mod Marks

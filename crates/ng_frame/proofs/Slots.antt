@@ -1,5 +1,5 @@
 -- Where a slot of a hand lies, by what a load tells.
-use Rattle.std.proofs.Common.{◌≡◌, ◌≢◌, ℕ, suc, ◌+◌, ◌-◌, ◌*◌, ◌/◌, ◌%◌, ◌<◌, ◌≤◌, mul-le-mul_left, ap, ◌∙◌, ⊎_elim, arith}
+use Rattle.std.proofs.Common.{◌≡◌, ◌≢◌, ℕ, suc, ◌+◌, ◌-◌, ◌*◌, ◌/◌, ◌%◌, ◌<◌, ◌≤◌, mul-le-mul_left, ap, ◌∙◌, ⊎_elim, inl, inr, arith}
 use Rattle.std.specs.Prelude.{Option, Some, None}
 use Rattle.std.proofs.Math.Nat.{mod-le}
 use Rattle.std.proofs.lemmas.Bool.{cases_eq}
@@ -18,11 +18,10 @@ use Rattle.ng_view.specs.declared.view.Group.{Group}
 use Rattle.ng_view.specs.declared.view.Held.{Held}
 use Rattle.ng_view.specs.declared.view.Place.{Place}
 use Rattle.ng_view.specs.declared.view.Start.{Start}
-use Rattle.ng_space.specs.Blocks.{offset_in}
 use Rattle.ng_space.specs.Callers.{Caller}
 use Rattle.ng_space.specs.Placed.{ArePlaced, LiesIn}
 use Rattle.ng_space.specs.Tokens.{HasSlot, LiesAt, Token}
-use Rattle.ng_frame.specs.Puts.{IsWhole}
+use Rattle.ng_frame.specs.Puts.{IsNarrowOrFirst, IsWhole}
 
 stride-least : (g : Group) → IsGroupClass (g.tag - 1) g.last g.maplen → 16 ≤ stride g
 unfolding stride
@@ -73,17 +72,17 @@ stride-most key p l =
     (stride_of_either (g.tag - 1) g.last g.maplen)
 
 -- an offset in a slot of a group with several
-narrow_number : (u i l o : ℕ) → i ≤ l → o < u → u * (l + 1) < 65536 → (((16 * u) * i + 16 * o) / 16) < 65536
-narrow_number u i l o le lt fits =
+narrow_number : (u i l r : ℕ) → i ≤ l → r ≤ 16 * u → u * (l + 1) < 65536 → (((16 * u) * i + r) / 16) < 65536
+narrow_number u i l r le lt fits =
     let more : u * suc i ≤ u * (l + 1) = mul-le-mul_left u (omega arith) in
     let next : u * suc i ≡ u * i + u = omega arith in
     let same : (16 * u) * i ≡ 16 * (u * i) = grind arith in
     let x : ℕ = u * i in
     omega (arith, more, next, same)
 
--- no block that begins so near to its slot's start has a wide offset
-pub narrow : (key : Start) (hand : Caller) (slot : Token) (a x o : ℕ) → HasSlot hand slot → Tells key hand.view a x → o < 256 → 16 * o + 4 ≤ slot.room → offset_in slot (slot.start + 16 * o) < 65536
-narrow key hand slot a x o has tells low fits =
+-- a slot with wide offsets is the only one of its group
+pub narrow : (key : Start) (hand : Caller) (slot : Token) (a x : ℕ) → HasSlot hand slot → Tells key hand.view a x → IsNarrowOrFirst slot
+narrow key hand slot a x has tells =
     let t = tells.slots has.held (find_among slot.meta slot.index hand.view.held has.held has.found).0 in
     let g = has.held.place.group in
     let i : ℕ = has.held.place.index in
@@ -95,13 +94,13 @@ narrow key hand slot a x o has tells low fits =
     let zero : i ≡ 0 = omega arith in
     let none_at : stride g * 0 ≡ 0 = omega arith in
     let times : stride g * i ≡ 0 = ap (λ n. stride g * n) zero ∙ none_at in
-    omega (arith, times))
+    inl (omega (arith, times)))
     (λ (ne : g.last ≢ 0). ⊎_elim
     (λ (k : IsSmallKind g).
     let size = several g (omega arith) in
     let times : stride g * i ≡ (16 * units g.tag) * i = ap (λ s. s * i) size in
-    let n = narrow_number (units g.tag) i g.last o index (omega (arith, size, most)) k.fits in
-    omega (arith, times, n))
+    let n = narrow_number (units g.tag) i g.last slot.room index (omega (arith, size, most, room)) k.fits in
+    inr (omega (arith, times, n)))
     (λ (k : IsLoneKind g). absurd (ne k.single))
     t.kind)
     (cases_eq g.last 0)

@@ -1,5 +1,5 @@
 -- The frame of a block has one verdict: what is known of its cells is what is loaded of them.
-use Rattle.std.proofs.Common.{◌≡◌, ◌≢◌, ℕ, zero, suc, ◌+◌, ◌-◌, ◌*◌, ◌/◌, ◌%◌, ◌^◌, ◌<◌, ◌≤◌, refl, sym, ap, ◌∙◌, subst, ⊎_elim, arith}
+use Rattle.std.proofs.Common.{◌≡◌, ◌≢◌, ℕ, zero, suc, ◌+◌, ◌-◌, ◌*◌, ◌/◌, ◌%◌, ◌<◌, ◌≤◌, refl, sym, ap, ◌∙◌, subst, ⊎_elim, arith}
 use Rattle.std.proofs.lemmas.Bool.{cases_eq}
 use Rattle.std.proofs.lemmas.Bool.Decides.{nat_tests}
 use Rattle.std.proofs.lemmas.Grind.{common_steps}
@@ -12,16 +12,13 @@ use Rattle.ng_rule.proofs.geometry.Lists.{find_among}
 use Rattle.ng_view.specs.Blocks.{Knows}
 use Rattle.ng_view.specs.Frame.{KnowsByte}
 use Rattle.ng_view.specs.Lists.{find}
-use Rattle.ng_view.specs.Steps.{learnt, loaded}
 use Rattle.ng_view.specs.Tells.{Tells}
 use Rattle.ng_view.specs.declared.view.Held.{Held}
 use Rattle.ng_view.specs.declared.view.Start.{Start}
 use Rattle.ng_view.specs.declared.view.View.{View}
-use Rattle.ng_space.specs.Blocks.{BlockToken, HasBlock, OfSlot}
-use Rattle.ng_space.specs.Callers.{Caller}
-use Rattle.ng_space.specs.Leaving.{Learns, LeavesAll}
-use Rattle.ng_space.proofs.Leaving.{learns_cell, stays_loaded}
-use Rattle.ng_frame.specs.Inspects.{AreKnown, field_in, fifth_in, gap_of, number_in}
+use Rattle.ng_space.specs.Blocks.{BlockToken}
+use Rattle.ng_space.specs.Leaving.{LeavesAll}
+use Rattle.ng_frame.specs.Inspects.{AreKnown, field_in, fifth_in, number_in}
 use Rattle.ng_frame.specs.Judging.{IsJudged, IsSureByte, damage_by, verdict_by, verdict_of}
 use Rattle.ng_frame.specs.declared.damage.Damage.{Damage}
 use Rattle.ng_frame.specs.declared.damage.Damage.TheVariants.{BadReserved, Overrun}

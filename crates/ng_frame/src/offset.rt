@@ -1,16 +1,16 @@
 // Where the next block of a slot begins.
-ghost use Rattle.std.specs.Prelude.{◌≡◌, ◌+◌, ◌*◌, ◌<◌, ◌≤◌, ◌^◌};
+ghost use Rattle.std.specs.Prelude.{◌≡◌, ◌⊎◌, ◌%◌, ◌+◌, ◌*◌, ◌<◌, ◌≤◌, ◌^◌};
 ghost use Rattle.ng_view.specs.Frame.{IsShift, field_of};
 ghost use Rattle.ng_space.specs.Blocks.{OfSlot};
 ghost use Rattle.ng_space.specs.Tokens.{HasSlot};
 ghost use Rattle.ng_space.specs.Leaving.{KeepsBook, KeepsCells, Leaves, LeavesAll, Stays};
-ghost use Rattle.ng_frame.specs.Puts.{Cycles, IsNear, IsWhole};
+ghost use Rattle.ng_frame.specs.Puts.{Cycles, IsNarrowOrFirst, IsNear, IsWhole, KnowsWide};
 
 use ng_header::cycle;
 use ng_space::{Hand, Name, Slot, Space};
 
 // Byte 1 of the header cell at a slot's start whose block begins further on.
-const MARK: u32 = 224;
+pub(crate) const MARK: u32 = 224;
 
 /// Where the next block of n bytes begins in a slot: its offset from the slot's start, in units of
 /// 16 bytes. It is the next in the slot's cycle, by the header cell that is found at the start, and
@@ -50,19 +50,44 @@ fn kept_field(header: u32) -> Option<u32>
     }
 }
 
-// Where the block doesn't begin at the slot's start, the header cell there gets its offset.
-pub(crate) fn store_mark<N: Name>(space: &Space<N>, hand: &mut Hand<N>, slot: &Slot<N>, offset: u64)
+// Where a block doesn't begin at the slot's start, the header cell there gets its distance in units of
+// 16 bytes, as far as 16 bits have room.
+pub(crate) fn store_mark<N: Name>(space: &Space<N>, hand: &mut Hand<N>, slot: &Slot<N>, at: u64)
     requires slot { HasSlot hand.old slot.now }
     requires whole { IsWhole slot.now }
-    requires small { offset < 256 }
-    ensures shift { OfSlot hand.new slot.now (λ h. IsShift h (slot.now.start + 16 * offset)) }
+    requires from { slot.now.start ≤ at }
+    ensures shift { OfSlot hand.new slot.now (λ h. IsShift h at) }
     ensures slot { HasSlot hand.new slot.now }
     ensures own { Stays slot.now.meta slot.now.index hand.old.view hand.new.view (KeepsCells (λ a. slot.now.start ≤ a)) }
     ensures leaves { Leaves slot.now hand.old.view hand.new.view }
     ensures book { KeepsBook hand.old hand.new }
 {
-    if offset != 0 {
-        let mark = MARK * 256 + (offset as u32) * 65536;
-        space.store_own(hand, slot, slot.start() - 4, mark);
+    let start = slot.start();
+    if at != start {
+        let distance = ((at - start) / 16 % 65536) as u32;
+        space.store_own(hand, slot, start - 4, MARK * 256 + distance * 65536);
+    }
+}
+
+// Where a block's offset has no room in its header, the cell before that gets it. Only a group of one
+// slot is so large.
+pub(crate) fn store_wide<N: Name>(space: &Space<N>, hand: &mut Hand<N>, slot: &Slot<N>, at: u64)
+    requires slot { HasSlot hand.old slot.now }
+    requires whole { IsWhole slot.now }
+    requires narrow { IsNarrowOrFirst slot.now }
+    requires at { at % 16 ≡ 0 }
+    requires from { slot.now.start ≤ at }
+    requires roomy { at < slot.now.start + slot.now.room }
+    ensures wide { OfSlot hand.new slot.now (KnowsWide slot.now at) }
+    ensures slot { HasSlot hand.new slot.now }
+    ensures own { Stays slot.now.meta slot.now.index hand.old.view hand.new.view (KeepsCells (λ a. (a < slot.now.start) ⊎ (at ≤ a))) }
+    ensures leaves { Leaves slot.now hand.old.view hand.new.view }
+    ensures book { KeepsBook hand.old hand.new }
+{
+    let offset = (at - slot.start()) / 16;
+    // A slot ends in the space, and so each offset in it has 32 bits.
+    let _end = slot.end();
+    if offset >= 65536 {
+        space.store_own(hand, slot, at - 8, offset as u32);
     }
 }

@@ -59,7 +59,7 @@ fn clear_byte<N: Name>(space: &Space<N>, hand: &mut Hand<N>, slot: &Slot<N>, at:
 }
 
 // The cell with 0 in one of its four bytes.
-fn without_byte(cell: u32, place: u32) -> u32
+pub(crate) fn without_byte(cell: u32, place: u32) -> u32
     requires place { place < 4 }
     ensures zero { byte_of result place ≡ 0 }
     ensures others { (b : ℕ) → b < 4 → b ≢ place → byte_of result b ≡ byte_of cell b }

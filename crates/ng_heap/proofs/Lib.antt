@@ -1,6 +1,6 @@
 pub mod AtLemmas
 pub mod AtTestLemmas
-pub mod ByteLemmas
+pub mod ClearLemmas
 pub mod FreeLemmas
 pub mod PutLemmas
 pub mod QuickLemmas

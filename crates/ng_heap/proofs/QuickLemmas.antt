@@ -13,7 +13,6 @@ use Rattle.ng_space.specs.Leaving.{KeepsBook, LeavesAll, LiesStill, Stays}
 use Rattle.ng_space.specs.Placed.{AreOnce}
 use Rattle.ng_space.specs.Tokens.{HasSlot, Token}
 use Rattle.ng_space.proofs.LeavingFrames.{leaves_all_then}
-use Rattle.ng_frame.specs.Puts.{put_at}
 use Rattle.ng_frame.proofs.Tokens.{slot_stays}
 use Rattle.ng_mask.specs.Pops.{HasPopCause, Wins}
 use Rattle.ng_mask.specs.declared.outcome.Pop.{Pop}
@@ -25,6 +24,7 @@ use Rattle.ng_group.proofs.HandSlotLemmas as hands
 use Rattle.ng_heap.specs.Causes.{HasClass, threshold}
 use Rattle.ng_heap.specs.Keeps.{IsFresh}
 use Rattle.ng_heap.specs.Making.{IsGivenNow, IsPutBy}
+use Rattle.ng_frame.specs.Puts.{put_at}
 use Rattle.ng_heap.specs.Trying.{GivesActive, LeavesQuickly, LoadsActive, OnlyReads, PopsActive}
 use Rattle.ng_heap.specs.declared.quick.Quick.{Quick}
 use Rattle.ng_heap.specs.declared.quick.Quick.TheVariants.{Given, TooLarge, Large, Idle, Bare, Other, Lost}
@@ -95,7 +95,7 @@ module _ (n : ℕ) (old looked won came : Caller) (meta class counter : ℕ) (sl
   serves_came = still_serves won came slot n is.has leaves_came (answered_serves won class n (Ok slot) for_request allowed)
 
   -- and a block was put into it
-  module _ (found after : Caller) (o : ℕ) (block : BlockToken) (block_is : block ≡ put_at slot n o)
+  module _ (found after : Caller) (o : ℕ) (block : BlockToken) (block_is : block ≡ put_at slot n 16 o)
       (leaves : LeavesAll came.view found.view) (still : Stays slot.meta slot.index found.view after.view LiesStill) where
     class_after : HasClass after slot class
     class_after =

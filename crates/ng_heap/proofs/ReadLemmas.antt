@@ -123,8 +123,8 @@ module _ (old mid : Caller) (reads : OnlyReads old mid) where
   pub leaves_mid : LeavesAll old.view mid.view
   leaves_mid = learns_leaves old.view mid.view reads.learns
 
-  pub made_after : (n : ℕ) (block : BlockToken) (new : Caller) → IsMade n mid block new → IsMade n old block new
-  made_after n block new made = record {
+  pub made_after : (n align : ℕ) (block : BlockToken) (new : Caller) → IsMade n align mid block new → IsMade n align old block new
+  made_after n align block new made = record {
     len = made.len;
     align = made.align;
     framed = made.framed;
@@ -157,10 +157,10 @@ module _ (old mid : Caller) (reads : OnlyReads old mid) where
   pub slots_after : (w : View) → KeepsSlots mid.view w → KeepsSlots old.view w
   slots_after w slots m i = stays_then _ _ _ m i old.view mid.view w (λ a t. (t, t)) (leaves_mid.all.slots m i) (slots m i)
 
-  pub refuses_after : (n : ℕ) (why : AllocRefusal) (after : View) → RefusesNow n mid why after → RefusesNow n old why after
-  refuses_after n (NoMemory excuse) after spends = record {
+  pub refuses_after : (n align : ℕ) (why : AllocRefusal) (after : View) → RefusesNow n align mid why after → RefusesNow n align old why after
+  refuses_after n align (NoMemory excuse) after spends = record {
     came = spends.came;
     gains = excused_after excuse old.view mid.view spends.came reads.learns spends.gains;
     enters = subst (λ number. EntersNoMemory spends.came number n excuse after) reads.book.number spends.enters;
   }
-  refuses_after n TooLarge after is = is
+  refuses_after n align TooLarge after is = is

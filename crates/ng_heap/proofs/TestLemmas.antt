@@ -10,7 +10,7 @@ use Rattle.ng_heap.specs.declared.quick.Quick.TheVariants.{Given, TooLarge, Larg
 use Rattle.ng_heap.proofs.ReadLemmas.{learns_leaves}
 
 -- a heap that might be closed still may
-may_still : (old new : Caller) (seat : View) → new.number ≡ old.number → KeepsRest old.view new.view → MayClose seat old → MayClose seat new
+pub may_still : (old new : Caller) (seat : View) → new.number ≡ old.number → KeepsRest old.view new.view → MayClose seat old → MayClose seat new
 may_still old new seat number rest may =
     record { next = may.next; number = number ∙ may.number; even = rest.sent ∙ may.even ∙ sym rest.taken }
 

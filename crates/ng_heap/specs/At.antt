@@ -1,4 +1,4 @@
--- Pointers that are checked: what a probe tells, blocks freed by their address, and bytes written in blocks.
+-- Pointers that are checked: what a probe tells, and blocks freed by their address.
 use Rattle.std.specs.Prelude.{◌≡◌, ◌≢◌, ◌⊎◌, ℕ, ◌+◌, ◌-◌, ◌*◌, ◌/◌, ◌%◌, ◌^◌, ◌<◌, All, Contains, List, length, slice_index_or, swap_remove, Option, Some, None, Result, Ok, Err}
 use Rattle.ng_check.specs.Answers.{Checks, Judges, number_of}
 use Rattle.ng_check.specs.declared.fault.BadPointer.{BadPointer}
@@ -90,14 +90,3 @@ abbrev pub IsOwnFree : {A : Type 0} → Result A AtRefusal → Type 0
 IsOwnFree (Ok done) = Unit {0}
 IsOwnFree (Err (Bad bad)) = (bad.fault ≡ fault.BadReserved) ⊎ (bad.fault ≡ fault.Overrun)
 IsOwnFree (Err NotHeld) = ⊥
-
--- ---- a byte that is written
--- the cell with another byte at one of its four places
-abbrev pub with_byte : ℕ → ℕ → ℕ → ℕ
-with_byte cell place byte = (cell - byte_of cell place * 2 ^ (8 * place)) + byte * 2 ^ (8 * place)
-
--- the cell of the byte at y was loaded, and then stored with that byte
-pub record Scribbles (before : View) (block : BlockToken) (y byte : ℕ) (after : View) : Type 0 where
-  pub word : ℕ
-  pub view : after ≡ stored (loaded before (4 * (y / 4)) word) block.slot.meta block.slot.index (4 * (y / 4))
-      (with_byte (word % 4294967296) (y % 4) byte)

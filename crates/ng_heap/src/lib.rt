@@ -1,6 +1,8 @@
 //! A heap over the space: blocks given and taken back, under the core's lock or without it.
 #![tactic(auto)]
 
+mod asking;
+mod calloc;
 mod freeing;
 mod freeing_at;
 mod heap;
@@ -25,6 +27,8 @@ pub use shared::SharedHeap;
 mod area_tests;
 #[cfg(test)]
 mod beside_tests;
+#[cfg(test)]
+mod content_tests;
 #[cfg(test)]
 mod lock_tests;
 #[cfg(test)]

@@ -1,15 +1,17 @@
 // Pointers that are probed, and blocks whose cells are read and written byte by byte.
-ghost use Rattle.std.specs.Prelude.{◌≡◌, ◌≢◌, ℕ, ◌+◌, ◌<◌, Ok};
+ghost use Rattle.std.specs.Prelude.{◌≡◌, ◌≢◌, ℕ, ◌+◌, ◌<◌, ◌≤◌, Ok, length};
+ghost use Rattle.ng_bytes.specs.Contents.{AreKnownBytes, AreSureBytes};
+ghost use Rattle.ng_bytes.specs.Scribbles.{Scribbles};
 ghost use Rattle.ng_check.specs.Answers.{Checks, Judges};
+ghost use Rattle.ng_frame.specs.Contents.{KeepsAround};
 ghost use Rattle.ng_frame.specs.Inspects.{Inspects, gap_of};
 ghost use Rattle.ng_frame.specs.Judging.{IsJudged, damage_in, verdict_of};
-ghost use Rattle.ng_header.specs.Bytes.{byte_of};
-ghost use Rattle.ng_heap.specs.At.{Scribbles, with_byte};
 ghost use Rattle.ng_space.specs.Blocks.{BlockToken, HasBlock, HasFramed, OfSlot};
-ghost use Rattle.ng_space.specs.Leaving.{KeepsBook, KeepsOthers, KeepsRest, LeavesAll};
+ghost use Rattle.ng_space.specs.Leaving.{KeepsBook, KeepsOthers, KeepsRest, Leaves, LeavesAll, Stays};
 ghost use Rattle.ng_view.specs.Frame.{KnowsByte};
 
 use crate::heap::Heap;
+use ng_bytes::{read, store_byte, write};
 use ng_check::{BadPointer, Found, probe};
 use ng_frame::{Damage, nominal_size};
 use ng_space::{Block, Hand, Name};
@@ -38,6 +40,33 @@ impl<N: Name> Heap<N> {
         nominal_size(&self.space, hand, block)
     }
 
+    /// Reads the bytes of a block from so many bytes behind its address on.
+    pub fn read(&self, hand: &mut Hand<N>, block: &Block<N>, from: u64, out: &mut [u8])
+        requires block { HasBlock hand.old block.now }
+        requires within { from + length out.old ≤ block.now.len }
+        ensures length { length out.new ≡ length out.old }
+        ensures bytes { OfSlot hand.new block.now.slot (AreSureBytes (block.now.at + from) out.new) }
+        ensures leaves { LeavesAll hand.old.view hand.new.view }
+        ensures book { KeepsBook hand.old hand.new }
+    {
+        read(&self.space, hand, block, from, out)
+    }
+
+    /// Writes bytes into a block, from so many bytes behind its address on.
+    pub fn write(&self, hand: &mut Hand<N>, block: &Block<N>, from: u64, bytes: &[u8])
+        requires block { HasBlock hand.old block.now }
+        requires within { from + length bytes.now ≤ block.now.len }
+        ensures written { OfSlot hand.new block.now.slot (AreKnownBytes (block.now.at + from) bytes.now) }
+        ensures around { Stays block.now.slot.meta block.now.slot.index hand.old.view hand.new.view
+            (KeepsAround (block.now.at + from) (block.now.at + from + length bytes.now)) }
+        ensures has { HasBlock hand.new block.now }
+        ensures framed { HasFramed hand.old block.now → HasFramed hand.new block.now }
+        ensures leaves { Leaves block.now.slot hand.old.view hand.new.view }
+        ensures book { KeepsBook hand.old hand.new }
+    {
+        write(&self.space, hand, block, from, bytes)
+    }
+
     /// Writes one byte so many bytes behind a block's address, below its slot's end.
     pub fn scribble(&self, hand: &mut Hand<N>, block: &Block<N>, from: u64, byte: u8)
         requires block { HasBlock hand.old block.now }
@@ -50,21 +79,6 @@ impl<N: Name> Heap<N> {
         ensures rest { KeepsRest hand.old.view hand.new.view }
         ensures book { KeepsBook hand.old hand.new }
     {
-        let _gap = block.gap();
-        let cell = block.at() + from / 4 * 4;
-        let word = self.space.load(hand, cell);
-        let value = put_byte((word % (1 << 32)) as u32, (from % 4) as u32, byte);
-        self.space.store_in(hand, block, cell, value);
+        store_byte(&self.space, hand, block, from, byte)
     }
-}
-
-// The cell with another byte at one of its four places, the lowest first.
-fn put_byte(cell: u32, place: u32, byte: u8) -> u32
-    requires place { place < 4 }
-    ensures value { result ≡ with_byte cell place byte }
-    ensures written { byte_of result place ≡ byte }
-    ensures others { (b : ℕ) → b < 4 → b ≢ place → byte_of result b ≡ byte_of cell b }
-{
-    let unit = 1u32 << (8 * place);
-    cell - cell / unit % 256 * unit + u32::from(byte) * unit
 }

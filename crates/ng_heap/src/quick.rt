@@ -35,13 +35,13 @@ impl<N: Name> Heap<N> {
     /// is left to [`Heap::malloc_in`].
     pub fn malloc_unlocked(&self, hand: &mut Hand<N>, n: u64) -> Quick<N>
         requires spare { 1 ≤ hand.old.spare }
-        ensures made { OnGiven result (λ block. IsMade n hand.old block hand.new) }
+        ensures made { OnGiven result (λ block. IsMade n 16 hand.old block hand.new) }
         ensures cause { HasQuickCause n hand.old result hand.new }
         ensures leaves { LeavesQuickly n hand.old result hand.new }
         ensures slots { KeepsSlots hand.old.view hand.new.view }
     {
         if n >= LARGE {
-            self.enter_too_large(hand, n);
+            self.enter_too_large(hand, 1, n, 16);
             return Quick::TooLarge;
         }
         let Some(class) = class_of(n) else {
@@ -56,7 +56,7 @@ impl<N: Name> Heap<N> {
             Pop::Won(slot) => {
                 let counter = self.space.counter(hand);
                 let offset = next_offset(&self.space, hand, &slot, n, u64::from(counter));
-                Quick::Given(put(&self.space, hand, slot, n, offset))
+                Quick::Given(put(&self.space, hand, slot, n, 16, offset))
             }
             Pop::Bare => Quick::Bare,
             Pop::Other { tag } => Quick::Other { tag },

@@ -1,20 +1,23 @@
 // A heap that threads share: its core stands behind a lock.
-ghost use Rattle.std.specs.Prelude.{◌≡◌, ◌<◌, ◌≤◌, ◌↔◌, ℕ, All, Contains, Err, IfErr, IfOk, IsOk, OnOk, vec_capacity};
+ghost use Rattle.std.specs.Prelude.{◌≡◌, ◌<◌, ◌≤◌, ◌*◌, ◌↔◌, ℕ, All, Contains, Err, IfErr, IfOk, IsOk, OnOk, vec_capacity};
 ghost use Rattle.ng_frame.specs.Inspects.{Refuses, free_entry};
 ghost use Rattle.ng_heap.specs.At.{HasAtCause, IsOwnFree, at_entry};
 ghost use Rattle.ng_heap.specs.Freeing.{Frees};
-ghost use Rattle.ng_heap.specs.Making.{IsGivenNow, IsMade, RefusesNow, malloc_entry};
-ghost use Rattle.ng_space.specs.Blocks.{BlockToken, HasBlock, HasFramed};
+ghost use Rattle.ng_heap.specs.Making.{IsGivenNow, IsMade, RefusesNow, RefusesProduct, calloc_entry, request_entry};
+ghost use Rattle.ng_bytes.specs.Contents.{AreZero};
+ghost use Rattle.ng_space.specs.Blocks.{BlockToken, HasBlock, HasFramed, OfSlot};
 ghost use Rattle.ng_space.specs.Leaving.{Entered, KeepsBook, KeepsSlots, Leaves, LeavesAll};
 ghost use Rattle.ng_space.specs.Tokens.{HasSlot};
 ghost use Rattle.ng_terms.specs.Heap.{IsTooLarge, large};
 ghost use Rattle.ng_terms.specs.declared.refusal.AllocRefusal.TheVariants as refusal;
 ghost use Rattle.ng_view.specs.Steps.{pushed};
 
+use crate::asking::asked_bytes;
 use crate::freeing::Unlocked;
 use crate::freeing_at::AtRefusal;
 use crate::heap::Heap;
 use crate::quick::Quick;
+use ng_bytes::clear;
 use ng_frame::Damage;
 use ng_group::Core;
 use ng_mapper::Mapper;
@@ -66,12 +69,12 @@ impl<N: Name, M: Mapper, P: Rules> SharedHeap<N, M, P> {
     ) -> Result<Block<N>, AllocRefusal>
         requires spare { 1 ≤ hand.old.spare }
         requires cap { n < large → n ≤ N.facts.start.cap }
-        ensures made { IfOk result (λ block. IsMade n hand.old block hand.new) }
+        ensures made { IfOk result (λ block. IsMade n 16 hand.old block hand.new) }
         ensures given { IfOk result (λ block. (counter : ℕ) × IsGivenNow hand.old.view block counter hand.new) }
         ensures large { (result ≡ Err refusal.TooLarge) ↔ IsTooLarge 1 n 16 }
-        ensures refuses { IfErr result (λ why. RefusesNow n hand.old why hand.new.view) }
+        ensures refuses { IfErr result (λ why. RefusesNow n 16 hand.old why hand.new.view) }
 
-        ensures entered { Entered hand.old hand.new (malloc_entry n result) }
+        ensures entered { Entered hand.old hand.new (request_entry n 16 result) }
         ensures leaves { IfOk result (λ block. Leaves block.slot hand.old.view hand.new.view) }
         ensures kept { IfErr result (λ why. LeavesAll hand.old.view hand.new.view) }
         ensures slots { KeepsSlots hand.old.view hand.new.view }
@@ -83,6 +86,42 @@ impl<N: Name, M: Mapper, P: Rules> SharedHeap<N, M, P> {
                 let mut core = self.core.lock(rt);
                 self.heap.malloc_in(&mut core, hand, n)
             }
+        }
+    }
+
+    /// Gives a block of `count` elements of `size` bytes, aligned to 16, whose bytes are 0. The block is taken as by
+    /// [`SharedHeap::malloc`], and cleared without the lock. The request is entered, also where it is refused; one whose
+    /// bytes are beyond every heap is too large.
+    pub fn calloc<R: Wait>(
+        &self,
+        rt: &R,
+        hand: &mut Hand<N>,
+        count: u64,
+        size: u64,
+    ) -> Result<Block<N>, AllocRefusal>
+        requires spare { 1 ≤ hand.old.spare }
+        requires cap { count * size < large → count * size ≤ N.facts.start.cap }
+        ensures made { IfOk result (λ block. IsMade (count * size) 16 hand.old block hand.new) }
+        ensures zero { IfOk result (λ block. OfSlot hand.new block.slot (AreZero block.at block.len)) }
+        ensures given { IfOk result (λ block. (counter : ℕ) × IsGivenNow hand.old.view block counter hand.new) }
+        ensures large { (result ≡ Err refusal.TooLarge) ↔ IsTooLarge count size 16 }
+        ensures refuses { IfErr result (λ why. RefusesProduct count size hand.old why hand.new.view) }
+
+        ensures entered { Entered hand.old hand.new (calloc_entry count size result) }
+        ensures leaves { IfOk result (λ block. Leaves block.slot hand.old.view hand.new.view) }
+        ensures kept { IfErr result (λ why. LeavesAll hand.old.view hand.new.view) }
+        ensures slots { KeepsSlots hand.old.view hand.new.view }
+    {
+        let Some(bytes) = asked_bytes(count, size, 16) else {
+            self.heap.enter_too_large(hand, count, size, 16);
+            return Err(AllocRefusal::TooLarge);
+        };
+        match self.malloc(rt, hand, bytes) {
+            Ok(block) => {
+                clear(self.heap.space(), hand, &block, bytes);
+                Ok(block)
+            }
+            Err(why) => Err(why),
         }
     }
 

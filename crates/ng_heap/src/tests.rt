@@ -104,6 +104,7 @@ pub(crate) fn given<N: Name, P: Rules, R: Abort>(
     requires closes { MayClose core.old.seat hand.old }
     requires cap { large ≤ N.facts.start.cap + 1 }
     ensures block { HasBlock hand.new result }
+    ensures len { result.len ≡ n }
     ensures fresh { IsFresh hand.old result.slot }
     ensures blocks { (other : BlockToken) → HasBlock hand.old other → HasBlock hand.new other }
     ensures closes { MayClose core.new.seat hand.new }
@@ -119,7 +120,7 @@ pub(crate) fn given<N: Name, P: Rules, R: Abort>(
 }
 
 // A block is freed, whose slot is the first that is freed of its group and is settled under the lock.
-fn frees_first<N: Name, P: Rules, R: Abort>(
+pub(crate) fn frees_first<N: Name, P: Rules, R: Abort>(
     rt: &R,
     heap: &Heap<N>,
     core: &mut Core<N, FirstFit, P>,

@@ -9,6 +9,7 @@ use Rattle.std.proofs.lemmas.List.Elements.{All-cons, All-nil}
 use Rattle.ng_terms.specs.declared.entry.Entry.{Entry}
 use Rattle.ng_terms.specs.declared.entry.Entry.TheVariants.{Give, Take, Resize, NoMemory, TooLarge, BadAlign, Refused}
 use Rattle.ng_terms.specs.declared.plan.Plan.{Plan}
+use Rattle.ng_terms.specs.declared.reply.Mode.{Mode}
 use Rattle.ng_terms.specs.declared.reply.Reply.{Reply}
 use Rattle.ng_terms.specs.Accounts.{Account, Counts, IsExcused, IsMostBound, IsOneHistory}
 use Rattle.ng_terms.specs.Calls.{Fits}
@@ -27,7 +28,6 @@ use Rattle.ng_space.specs.Callers.{Caller, fresh_caller}
 use Rattle.ng_space.specs.Closings.{views_of}
 use Rattle.ng_space.proofs.Gathering.{views}
 use Rattle.ng_replay.specs.Books.{AreBooks, hand_at}
-use Rattle.ng_replay.specs.Serving.{plain}
 
 -- the entries of the hands' books
 abbrev pub books_of_hands : List Caller → List (List Entry)
@@ -220,12 +220,12 @@ module _ (start : Start) (lock : View) (hands : List Caller) (legal : History st
       all_excused = All-among (λ (event : Event). IsExcused before now event.1) legal.calls is_excused
 
 -- ---- the account, whose history is that of the close
-module _ (plan : Plan) (replies : List (List Reply)) (start : Start) (lock : View) (hands : List Caller) (before now : Counts) where
-  abbrev pub account_closed : Fits plan plain replies → AreBooks plan replies hands → InRange start
+module _ (plan : Plan) (mode : Mode) (replies : List (List Reply)) (start : Start) (lock : View) (hands : List Caller) (before now : Counts) where
+  abbrev pub account_closed : Fits plan mode replies → AreBooks plan mode replies hands → InRange start
       → (legal : History start (views_of lock hands)) → Excuses start (views_of lock hands)
       → lock.leads ≡ true → lock.books ≡ [] → All (λ (hand : Caller). hand.view.books ≡ record { number = hand.number; entries = hand.entries } ∷ []) hands
-      → start.refusals ≡ before.refusals → lock.desk.refusals ≤ now.refusals → IsMostBound plan plain before.most now.most
-      → Account plan plain replies (books_of_hands hands) start.pages before now
+      → start.refusals ≡ before.refusals → lock.desk.refusals ≤ now.refusals → IsMostBound plan mode before.most now.most
+      → Account plan mode replies (books_of_hands hands) start.pages before now
   account_closed fits books range legal excuses leads bookless singles first last most =
       let numbers : (log : ℕ) → log < length hands → (hand_at hands log).number ≡ log + 1 =
       λ log below. books.numbers log (omega (arith, below, books.count)) in record {

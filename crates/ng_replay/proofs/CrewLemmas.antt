@@ -14,6 +14,7 @@ use Rattle.ng_space.specs.Blocks.{BlockToken}
 use Rattle.ng_space.specs.Callers.{Caller, fresh_caller, fresh_callers}
 use Rattle.ng_terms.specs.declared.plan.Op.{Op}
 use Rattle.ng_terms.specs.declared.plan.Plan.{Plan}
+use Rattle.ng_terms.specs.declared.reply.Mode.{Mode}
 use Rattle.ng_terms.specs.declared.reply.Reply.{Reply}
 use Rattle.ng_replay.specs.Books.{rooms_for}
 use Rattle.ng_replay.specs.Crews.{AreReady, HasRoomFor, HavePlaces, IsCrewFor, IsReady, doors_of, hands_of}
@@ -58,8 +59,8 @@ IsCrewFor-made {N} crew places plan have blocks rows ends = record {
         ∙ get_or-map (λ (x : Worker N). x.replies) workers log w (get_or workers log w).replies (omega (arith, count))
 
 -- the ops of a log of a sound plan may be done
-pub MayDo-sound : (plan : Plan) (cap log : ℕ) → IsSound plan → IsCapOf cap plan → log < length plan.logs → MayDo cap plan.receivers (get_or plan.logs log [])
-MayDo-sound plan cap log sound cap_of below = record {
+pub MayDo-sound : (plan : Plan) (mode : Mode) (cap log : ℕ) → IsSound plan → IsCapOf cap plan mode → log < length plan.logs → MayDo mode cap plan.receivers (get_or plan.logs log [])
+MayDo-sound plan mode cap log sound cap_of below = record {
   own = All-get_or TakesOwnOps plan.logs log [] below sound.own;
   kept = λ i op within is. sound.kept (place i) op (record { log = below; op = within }) is;
   once = λ i j number first second is also.
@@ -69,16 +70,16 @@ MayDo-sound plan cap log sound cap_of below = record {
   given = λ i number within is.
       let numbered = sound.given (place i) number (record { log = below; op = within }) is in
       record { least = numbered.least; most = numbered.most };
-  sizes = λ i within. cap-op plan (place i) cap (record { log = below; op = within }) cap_of;
+  sizes = λ i within. cap-op plan mode (place i) cap (record { log = below; op = within }) cap_of;
 }
   where
     place : ℕ → Place
     place i = record { log = log; op = i }
 
 -- workers of hands that have done nothing, and of doors that were just opened
-pub AreReady-opened : {N : Type 0} → (boxes : Boxes N) (plan : Plan) (cap : ℕ) (crew : Crew N) → IsSound plan → IsCapOf cap plan → IsCrewFor crew plan
-    → hands_of crew ≡ fresh_callers 1 (rooms_for plan) → AreOpened plan boxes (doors_of crew) → AreReady boxes cap plan crew.workers.items
-AreReady-opened {N} boxes plan cap crew sound cap_of crew_for hands opened = record {
+pub AreReady-opened : {N : Type 0} → (boxes : Boxes N) (plan : Plan) (mode : Mode) (cap : ℕ) (crew : Crew N) → IsSound plan → IsCapOf cap plan mode → IsCrewFor crew plan
+    → hands_of crew ≡ fresh_callers 1 (rooms_for plan) → AreOpened plan boxes (doors_of crew) → AreReady mode boxes cap plan crew.workers.items
+AreReady-opened {N} boxes plan mode cap crew sound cap_of crew_for hands opened = record {
   count = crew_for.count;
   each = each;
 }
@@ -98,13 +99,13 @@ AreReady-opened {N} boxes plan cap crew sound cap_of crew_for hands opened = rec
     door : (log : ℕ) (w : Worker N) → log < length plan.logs → get_or (doors_of crew) log (get_or workers log w).door ≡ (get_or workers log w).door
     door log w below = get_or-map (λ (x : Worker N). x.door) workers log w (get_or workers log w).door (omega (arith, crew_for.count))
 
-    each : (log : ℕ) (w : Worker N) → log < length plan.logs → IsReady boxes cap (get_or plan.logs log []) log (get_or workers log w)
+    each : (log : ℕ) (w : Worker N) → log < length plan.logs → IsReady mode boxes cap (get_or plan.logs log []) log (get_or workers log w)
     each log w below =
         let own : Door N = (get_or workers log w).door in
         let fresh : IsFresh own (length (get_or plan.logs log [])) (received_by plan.receivers log) =
         subst (λ (d : Door N). IsFresh d (length (get_or plan.logs log [])) (received_by plan.receivers log)) (door log w below) (opened.fresh log own below) in
         record {
-          may = rw opened.receivers (MayDo-sound plan cap log sound cap_of below);
+          may = rw opened.receivers (MayDo-sound plan mode cap log sound cap_of below);
           hand = hand log w below;
           door = subst (IsDoorOf boxes) (door log w below) (opened.opened.each log own (omega (arith, opened.count)));
           log_is = subst (λ (d : Door N). d.log ≡ log) (door log w below) (opened.opened.logs log own (omega (arith, opened.count)));

@@ -18,13 +18,13 @@ use Rattle.ng_terms.specs.declared.plan.Op.TheVariants.{Make}
 use Rattle.ng_terms.specs.declared.plan.Origin.{Origin}
 use Rattle.ng_terms.specs.declared.plan.Origin.TheVariants.{Own, Claim, Skip}
 use Rattle.ng_terms.specs.declared.plan.Plan.{Plan}
+use Rattle.ng_terms.specs.declared.reply.Mode.{Mode}
 use Rattle.ng_terms.specs.declared.reply.Reply.{Reply}
 use Rattle.ng_terms.specs.declared.reply.Reply.TheVariants.{Absent}
 use Rattle.ng_terms.specs.Calls.{Fits, FitsOp, handed_as, origin_of, source_of, standing, standing_of_number}
 use Rattle.ng_replay.specs.Books.{AreAllFramed, AreBooks, hand_at}
 use Rattle.ng_replay.specs.Crews.{AreEnded, HaveDone}
 use Rattle.ng_replay.specs.Serial.{reply_at, stands_at}
-use Rattle.ng_replay.specs.Serving.{plain}
 use Rattle.ng_replay.specs.Works.{AreDone, blocks_among, claimed_by, collected_as, posted_of, source_by}
 use Rattle.ng_replay.specs.declared.worker.Worker.{Worker}
 use Rattle.ng_replay.proofs.FlatLemmas.{count-once, element, sum-same}
@@ -35,10 +35,10 @@ use Rattle.ng_replay.proofs.ServedLemmas.{AllZip-from_places}
 use Rattle.ng_replay.proofs.SourceLemmas.{standing_of_number-maker}
 
 -- the lists of what the workers leave
-pub AreEnded-left : {N : Type 0} → (boxes : Boxes N) (plan : Plan) (workers left : List (Worker N)) (hands : List Caller) (doors : List (Door N)) (replies : List (List Reply))
-    → HaveDone boxes plan workers → left ≡ workers → hands ≡ map (λ (w : Worker N). w.hand) left → doors ≡ map (λ (w : Worker N). w.door) left
-    → replies ≡ map (λ (w : Worker N). w.replies.items) left → AreEnded boxes plan hands doors replies
-AreEnded-left {N} boxes plan workers left hands doors replies done same hands_are doors_are replies_are = record {
+pub AreEnded-left : {N : Type 0} → (mode : Mode) (boxes : Boxes N) (plan : Plan) (workers left : List (Worker N)) (hands : List Caller) (doors : List (Door N)) (replies : List (List Reply))
+    → HaveDone mode boxes plan workers → left ≡ workers → hands ≡ map (λ (w : Worker N). w.hand) left → doors ≡ map (λ (w : Worker N). w.door) left
+    → replies ≡ map (λ (w : Worker N). w.replies.items) left → AreEnded mode boxes plan hands doors replies
+AreEnded-left {N} mode boxes plan workers left hands doors replies done same hands_are doors_are replies_are = record {
   many_hands = ap length hands_is ∙ length-map workers (λ (w : Worker N). w.hand) ∙ done.count;
   many_doors = ap length doors_is ∙ length-map workers (λ (w : Worker N). w.door) ∙ done.count;
   many_replies = ap length replies_is ∙ length-map workers (λ (w : Worker N). w.replies.items) ∙ done.count;
@@ -55,7 +55,7 @@ AreEnded-left {N} boxes plan workers left hands doors replies done same hands_ar
     replies_is = replies_are ∙ ap (map (λ (w : Worker N). w.replies.items)) same
 
     each : (log : ℕ) (d : Door N) → log < length plan.logs
-        → AreDone boxes (get_or plan.logs log []) log (hand_at (map (λ (w : Worker N). w.hand) workers) log) (get_or (map (λ (w : Worker N). w.door) workers) log d)
+        → AreDone mode boxes (get_or plan.logs log []) log (hand_at (map (λ (w : Worker N). w.hand) workers) log) (get_or (map (λ (w : Worker N). w.door) workers) log d)
         (get_or (map (λ (w : Worker N). w.replies.items) workers) log [])
     each log d below =
         let within : log < length workers = omega (arith, done.count) in
@@ -64,13 +64,13 @@ AreEnded-left {N} boxes plan workers left hands doors replies done same hands_ar
         (rw (get_or-map (λ (w : Worker N). w.door) workers log own d within)
         (rw (get_or-map (λ (w : Worker N). w.replies.items) workers log own [] within) (done.each log own below)))
 
-module _ {N : Type 0} {boxes : Boxes N} {plan : Plan} {hands : List Caller} {doors : List (Door N)} {replies : List (List Reply)} (sound : IsSound plan)
-    (receivers : boxes.receivers.items ≡ plan.receivers) (ended : AreEnded boxes plan hands doors replies) where
+module _ {N : Type 0} {mode : Mode} {boxes : Boxes N} {plan : Plan} {hands : List Caller} {doors : List (Door N)} {replies : List (List Reply)} (sound : IsSound plan)
+    (receivers : boxes.receivers.items ≡ plan.receivers) (ended : AreEnded mode boxes plan hands doors replies) where
   -- what stands for an op was posted under its number, and what an op claims was collected
   sent-there : (maker : Place) (number : ℕ) (d : Door N) → IsIn plan maker → handed_as (op_in plan maker) ≡ Some number
       → Contains (get_or doors maker.log d).sent.items (number, stands_at replies maker)
   sent-there maker number d inside given =
-      let done : AreDone boxes (get_or plan.logs maker.log []) maker.log (hand_at hands maker.log) (get_or doors maker.log d) (get_or replies maker.log []) =
+      let done : AreDone mode boxes (get_or plan.logs maker.log []) maker.log (hand_at hands maker.log) (get_or doors maker.log d) (get_or replies maker.log []) =
       ended.each maker.log d inside.log in
       subst (λ (sent : List Pair). Contains sent (number, stands_at replies maker)) (sym done.sent)
       (posted-there (get_or plan.logs maker.log []) (get_or replies maker.log []) maker.op number inside.op (omega (arith, done.count, inside.op)) given)
@@ -124,7 +124,7 @@ module _ {N : Type 0} {boxes : Boxes N} {plan : Plan} {hands : List Caller} {doo
       subst (λ (log : ℕ). list_any (is_of number) (get_or doors log d).got.items ≡ true) (sym to)
       (collected-any (get_or doors off.taker.log d).got.items number (got-there off.taker number d off.taker_in off.taken))
 
-  pub AreBooks-ended : AreBooks plan replies hands
+  pub AreBooks-ended : AreBooks plan mode replies hands
   AreBooks-ended = record {
     count = ended.many_hands;
     numbers = λ log below. (ended.each log (door log below) below).number;
@@ -158,17 +158,17 @@ module _ {N : Type 0} {boxes : Boxes N} {plan : Plan} {hands : List Caller} {doo
     source-same taker d inside (Claim number) is = claimed-same taker number d inside is
     source-same taker d inside Skip is = refl
 
-    pub Fits-ended : Fits plan plain replies
+    pub Fits-ended : Fits plan mode replies
     Fits-ended = record { logs = ended.many_replies; ops = ops }
       where
         ops : (log : ℕ) → log < length plan.logs
-            → AllZip (λ (op : Op) (reply : Reply). FitsOp plain (source_of plan.logs replies log (origin_of op)) op reply) (get_or plan.logs log []) (get_or replies log [])
+            → AllZip (λ (op : Op) (reply : Reply). FitsOp mode (source_of plan.logs replies log (origin_of op)) op reply) (get_or plan.logs log []) (get_or replies log [])
         ops log below =
             let d : Door N = element doors log (omega (arith, ended.many_doors)) in
-            let done : AreDone boxes (get_or plan.logs log []) log (hand_at hands log) (get_or doors log d) (get_or replies log []) = ended.each log d below in
-            AllZip-from_places (λ (op : Op) (reply : Reply). FitsOp plain (source_of plan.logs replies log (origin_of op)) op reply) (get_or plan.logs log []) (get_or replies log []) (Make 0 0 None) Absent done.count
+            let done : AreDone mode boxes (get_or plan.logs log []) log (hand_at hands log) (get_or doors log d) (get_or replies log []) = ended.each log d below in
+            AllZip-from_places (λ (op : Op) (reply : Reply). FitsOp mode (source_of plan.logs replies log (origin_of op)) op reply) (get_or plan.logs log []) (get_or replies log []) (Make 0 0 None) Absent done.count
             (λ i inside.
-            subst (λ (source : Option ℕ). FitsOp plain source (op_of_log (get_or plan.logs log []) i) (get_or (get_or replies log []) i Absent))
+            subst (λ (source : Option ℕ). FitsOp mode source (op_of_log (get_or plan.logs log []) i) (get_or (get_or replies log []) i Absent))
             (source-same (record { log = log; op = i }) d (record { log = below; op = inside }) (origin_of (op_of_log (get_or plan.logs log []) i)) refl)
             (done.fit i inside))
 

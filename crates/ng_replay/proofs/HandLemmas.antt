@@ -15,13 +15,13 @@ use Rattle.ng_space.specs.Closings.{AreAll, IsEven}
 use Rattle.ng_space.specs.Parcels.{ParcelToken}
 use Rattle.ng_terms.specs.declared.plan.Op.{Op}
 use Rattle.ng_terms.specs.declared.plan.Plan.{Plan}
+use Rattle.ng_terms.specs.declared.reply.Mode.{Mode}
 use Rattle.ng_terms.specs.declared.reply.Reply.{Reply}
 use Rattle.ng_terms.specs.Calls.{calls_of, calls_of_log}
 use Rattle.ng_view.specs.Lists.{Among, total_by}
 use Rattle.ng_view.specs.declared.view.View.{View}
 use Rattle.ng_replay.specs.Books.{AreBooks, hand_at, rooms_for}
 use Rattle.ng_replay.specs.Serial.{AreHeld, AreInHand, IsBalanced, KeepsBalance, done_in}
-use Rattle.ng_replay.specs.Serving.{plain}
 use Rattle.ng_replay.proofs.BookLemmas.{AreBooks-more, calls_of_log-none, hand_at-other, hand_at-same}
 use Rattle.ng_replay.proofs.RowLemmas.{underway-none}
 
@@ -41,9 +41,9 @@ Among-at (x ∷ xs) zero d below = inl refl
 Among-at (x ∷ xs) (suc i) d below = inr (Among-at xs i d (omega arith))
 
 -- the logs' hands are all that were split off
-pub AreAll-books : (count : ℕ) (plan : Plan) (replies : List (List Reply)) (hands : List Caller) → length plan.logs ≡ count
-    → AreBooks plan replies hands → AreAll count hands
-AreAll-books count plan replies hands all books = record {
+pub AreAll-books : (count : ℕ) (plan : Plan) (mode : Mode) (replies : List (List Reply)) (hands : List Caller) → length plan.logs ≡ count
+    → AreBooks plan mode replies hands → AreAll count hands
+AreAll-books count plan mode replies hands all books = record {
   many = books.count ∙ all;
   each = λ number some below.
       let at : number - 1 + 1 ≡ number = omega arith in
@@ -74,14 +74,14 @@ taken-fresh number (room ∷ rooms) = omega (arith, taken-fresh (number + 1) roo
 framed-fresh : (number room : ℕ) → AreFramed (fresh_caller number room).view
 framed-fresh number room h there = absurd there
 
-pub AreInHand-start : (plan : Plan) (replies : List (List Reply)) (blocks : List (List (Option BlockToken))) (parcels : List (Option ParcelToken)) (hands : List Caller)
+pub AreInHand-start : (plan : Plan) (mode : Mode) (replies : List (List Reply)) (blocks : List (List (Option BlockToken))) (parcels : List (Option ParcelToken)) (hands : List Caller)
     → ((log : ℕ) → get_or replies log [] ≡ []) → ((log : ℕ) → get_or blocks log [] ≡ []) → All (λ (parcel : Option ParcelToken). parcel ≡ None) parcels
-    → hands ≡ fresh_callers 1 (rooms_for plan) → AreInHand plan replies blocks parcels hands
-AreInHand-start plan replies blocks parcels hands empty bare none fresh = record {
+    → hands ≡ fresh_callers 1 (rooms_for plan) → AreInHand plan mode replies blocks parcels hands
+AreInHand-start plan mode replies blocks parcels hands empty bare none fresh = record {
   books = record {
     count = ap length fresh ∙ length-fresh 1 (rooms_for plan) ∙ length-rooms;
     numbers = λ log below. let at : 1 + log ≡ log + 1 = omega arith in ap (λ (h : Caller). h.number) (hand log below) ∙ at;
-    each = λ log below. ap (λ (h : Caller). h.entries) (hand log below) ∙ sym (ap (calls_of_log plain (get_or plan.logs log [])) (empty log) ∙ calls_of_log-none (get_or plan.logs log []));
+    each = λ log below. ap (λ (h : Caller). h.entries) (hand log below) ∙ sym (ap (calls_of_log mode (get_or plan.logs log [])) (empty log) ∙ calls_of_log-none mode (get_or plan.logs log []));
   };
   spare = λ log below. omega (arith, ap (λ (h : Caller). h.spare) (hand log below), room log below);
   held = λ log below. rw (bare log) (record { framed = λ op block is. absurd (cc); apart = λ op other block another away is also. absurd (cc) });
@@ -108,16 +108,16 @@ IsBalanced-more : (hands : List Caller) (was now : List (Option ParcelToken)) (l
 IsBalanced-more hands was now log hand within balanced kept =
     omega (arith, kept, balanced, sum_by-set (λ (h : Caller). h.view.sent) hands log hand (fresh_caller 0 0) within, sum_by-set (λ (h : Caller). h.view.taken) hands log hand (fresh_caller 0 0) within)
 
-pub AreInHand-more : (plan : Plan) (replies : List (List Reply)) (blocks : List (List (Option BlockToken))) (was now : List (Option ParcelToken)) (hands : List Caller) (log : ℕ) (hand : Caller) (row : List (Option BlockToken)) (reply : Reply)
+pub AreInHand-more : (plan : Plan) (mode : Mode) (replies : List (List Reply)) (blocks : List (List (Option BlockToken))) (was now : List (Option ParcelToken)) (hands : List Caller) (log : ℕ) (hand : Caller) (row : List (Option BlockToken)) (reply : Reply)
     → length replies ≡ length plan.logs → length blocks ≡ length plan.logs → log < length plan.logs
-    → done_in replies log < length (get_or plan.logs log []) → AreInHand plan replies blocks was hands
+    → done_in replies log < length (get_or plan.logs log []) → AreInHand plan mode replies blocks was hands
     → KeepsFrames (hand_at hands log) hand
-    → hand.entries ≡ (hand_at hands log).entries ++ calls_of plain (op_of_log (get_or plan.logs log []) (done_in replies log)) reply
+    → hand.entries ≡ (hand_at hands log).entries ++ calls_of mode (op_of_log (get_or plan.logs log []) (done_in replies log)) reply
     → (hand_at hands log).spare ≤ hand.spare + 2
     → AreHeld hand row → KeepsBalance (hand_at hands log) hand was now
-    → AreInHand plan (set replies log (get_or replies log [] ++ reply ∷ [])) (set blocks log row) now (set hands log hand)
-AreInHand-more plan replies blocks was now hands log hand row reply logs rows within left held frames entered used mine kept = record {
-  books = AreBooks-more plan replies hands log hand reply logs within left held.books frames.number entered;
+    → AreInHand plan mode (set replies log (get_or replies log [] ++ reply ∷ [])) (set blocks log row) now (set hands log hand)
+AreInHand-more plan mode replies blocks was now hands log hand row reply logs rows within left held frames entered used mine kept = record {
+  books = AreBooks-more plan mode replies hands log hand reply logs within left held.books frames.number entered;
   spare = λ other below. ⊎_elim (spare-here other) (spare-there other below) (cases_eq other log);
   held = λ other below. ⊎_elim (held-here other) (held-there other below) (cases_eq other log);
   framed = All-set (λ (h : Caller). AreFramed h.view) hands log hand (frames.each (All-get_or (λ (h : Caller). AreFramed h.view) hands log (fresh_caller 0 0) in_hands held.framed)) held.framed;

@@ -18,3 +18,5 @@ pub mod CrewLemmas
 pub mod MailLemmas
 pub mod EndLemmas
 pub mod CapLemmas
+pub mod MakeLemmas
+pub mod ResizeLemmas

@@ -30,7 +30,6 @@ use Rattle.ng_terms.specs.Calls.{Fits, FitsOp, handed_as, origin_of, source_of, 
 use Rattle.ng_replay.specs.Books.{AreAllFramed, AreBooks, hand_at}
 use Rattle.ng_replay.specs.Crews.{HaveDone}
 use Rattle.ng_replay.specs.Serial.{reply_at, stands_at}
-use Rattle.ng_replay.specs.Serving.{plain}
 use Rattle.ng_replay.specs.Works.{AreDone, blocks_among, claimed_by, collected_as, collected_for, posted_for, posted_of, source_by}
 use Rattle.ng_replay.specs.declared.worker.Worker.{Worker}
 use Rattle.ng_replay.proofs.FlatLemmas.{Contains-flat_map, IsFound, Passes, count-once, count-some, element, find-there, flat_map-place, map-place, sum-same}

@@ -1,7 +1,5 @@
 -- What an op tells of its hand.
-use Rattle.std.proofs.lemmas.Grind.{common_steps}
-use Rattle.std.proofs.Common.{append_assoc, cond, eqb, false, ◌≡◌, ◌≢◌, ℕ, List, [], ◌∷◌, ◌++◌, Option, Some, None, IfSome}
-use Rattle.std.proofs.Common.{arith, ap, sym, ◌∙◌, subst, ⊎_elim, inl, inr}
+use Rattle.std.proofs.Common.{◌≡◌, Option, Some, None, IfSome, ap, sym, ◌∙◌, subst, ⊎_elim, inl, inr}
 use Rattle.ng_space.specs.Leaving.{AreFramed, KeepsOthers, KeepsRest, KeepsSlots}
 use Rattle.ng_space.proofs.Leaving.{rest_itself}
 use Rattle.ng_frame.proofs.Tokens.{framed_kept, framed_stays}
@@ -10,8 +8,6 @@ use Rattle.ng_heap.specs.Keeps.{IsFresh, KeepsFrames}
 use Rattle.ng_space.specs.Blocks.{BlockToken, HasFramed}
 use Rattle.ng_space.specs.Callers.{Caller}
 use Rattle.ng_space.specs.Tokens.{Token}
-use Rattle.ng_terms.specs.declared.entry.Entry.{Entry}
-use Rattle.ng_terms.specs.declared.entry.Entry.TheVariants.{Give, Resize, Take}
 use Rattle.ng_replay.specs.Serving.{IsApartFrom}
 
 pub IsApart-flip : (slot other : Token) → IsApart slot other → IsApart other slot
@@ -47,14 +43,3 @@ KeepsFrames-same before after same = record {
 
 pub KeepsRest-same : (before after : Caller) → after ≡ before → KeepsRest before.view after.view
 KeepsRest-same before after same = subst (λ (hand : Caller). KeepsRest before.view hand.view) (sym same) (rest_itself before.view)
-
--- the entries of a move from one address to another
-pub entries-moved : (before between now : List Entry) (size at old made source : ℕ) → at ≡ made → old ≡ source → source ≢ made
-    → between ≡ before ++ Give size 16 made ∷ [] → now ≡ between ++ Take source ∷ []
-    → now ≡ before ++ cond (eqb old at) (Resize at size ∷ []) (Give size 16 at ∷ Take old ∷ [])
-entries-moved before between now size at old made source at_is old_is apart given taken =
-    let other : old ≢ at = λ same. apart (sym old_is ∙ same ∙ at_is) in
-    let differ : eqb old at ≡ false = grind (arith, common_steps) in
-    let first : between ≡ before ++ Give size 16 at ∷ [] = rw at_is given in
-    let then : now ≡ between ++ Take old ∷ [] = rw old_is taken in
-    rw differ (rw first at then ∙ append_assoc before (Give size 16 at ∷ []) (Take old ∷ []))

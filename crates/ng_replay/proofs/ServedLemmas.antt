@@ -13,11 +13,11 @@ use Rattle.ng_terms.specs.declared.plan.Op.TheVariants.{Make}
 use Rattle.ng_terms.specs.declared.plan.Origin.{Origin}
 use Rattle.ng_terms.specs.declared.plan.Origin.TheVariants.{Own, Claim, Skip}
 use Rattle.ng_terms.specs.declared.plan.Plan.{Plan}
+use Rattle.ng_terms.specs.declared.reply.Mode.{Mode}
 use Rattle.ng_terms.specs.declared.reply.Reply.{Reply}
 use Rattle.ng_terms.specs.declared.reply.Reply.TheVariants.{Absent}
 use Rattle.ng_terms.specs.Calls.{Fits, FitsOp, handed_as, origin_of, source_of, standing, standing_of_number}
 use Rattle.ng_replay.specs.Serial.{AreServed, IsServed, IsVacant, Takes, TakesFrom, done_in, handed_after, handed_without, reply_at, row_after, row_without, source_at, source_with, stands_at, staying}
-use Rattle.ng_replay.specs.Serving.{plain}
 use Rattle.ng_replay.proofs.PassingLemmas.{handed_with-here, handed_with-other, handed_without-claimed, handed_without-none, handed_without-other, length-handed_with, length-handed_without, length-row_without, row_without-other}
 use Rattle.ng_replay.proofs.PlaceLemmas.{Adds, Adds-push}
 use Rattle.ng_replay.proofs.SourceLemmas.{Takes-once, place-same, source_at-same, standing_of_number-maker, stands_at-unserved}
@@ -28,26 +28,26 @@ abbrev pub next_place : List (List Reply) → ℕ → Place
 next_place replies log = record { log = log; op = done_in replies log }
 
 -- what lies ready of an op's own log, and under a number
-pub ready-own : {plan : Plan} {turns : ℕ} {replies : List (List Reply)} {held : List (List (Option ℕ))} {handed : List (Option ℕ)}
-    → AreServed plan turns replies held handed
+pub ready-own : {plan : Plan} {mode : Mode} {turns : ℕ} {replies : List (List Reply)} {held : List (List (Option ℕ))} {handed : List (Option ℕ)}
+    → AreServed plan mode turns replies held handed
     → (taker : Place) (op : ℕ) → IsIn plan taker → ¬ IsServed replies taker → origin_of (op_in plan taker) ≡ Own op
     → get_or (get_or held taker.log []) op None ≡ stands_at replies (record { log = taker.log; op = op })
 ready-own {plan = plan} {replies = replies} {held = held} {handed = handed} served taker op inside not_yet is =
     subst (λ (o : Origin). source_with (get_or held taker.log []) handed o ≡ source_of plan.logs replies taker.log o) is (served.ready taker inside not_yet)
 
-pub ready-claim : {plan : Plan} {turns : ℕ} {replies : List (List Reply)} {held : List (List (Option ℕ))} {handed : List (Option ℕ)}
-    → AreServed plan turns replies held handed
+pub ready-claim : {plan : Plan} {mode : Mode} {turns : ℕ} {replies : List (List Reply)} {held : List (List (Option ℕ))} {handed : List (Option ℕ)}
+    → AreServed plan mode turns replies held handed
     → (taker : Place) (number : ℕ) → IsIn plan taker → ¬ IsServed replies taker → origin_of (op_in plan taker) ≡ Claim number
     → get_or handed (number - 1) None ≡ standing_of_number plan.logs replies number
 ready-claim {plan = plan} {replies = replies} {held = held} {handed = handed} served taker number inside not_yet is =
     subst (λ (o : Origin). source_with (get_or held taker.log []) handed o ≡ source_of plan.logs replies taker.log o) is (served.ready taker inside not_yet)
 
 -- before the first turn
-pub AreServed-start : (plan : Plan) → IsSound plan → (replies : List (List Reply)) (held : List (List (Option ℕ))) (handed : List (Option ℕ))
+pub AreServed-start : (plan : Plan) (mode : Mode) → IsSound plan → (replies : List (List Reply)) (held : List (List (Option ℕ))) (handed : List (Option ℕ))
     → length replies ≡ length plan.logs → ((log : ℕ) → get_or replies log [] ≡ [])
     → length held ≡ length plan.logs → ((log : ℕ) → get_or held log [] ≡ []) → handed ≡ replicate (length plan.receivers) None
-    → AreServed plan 0 replies held handed
-AreServed-start plan sound replies held handed logs empty rows bare none = record {
+    → AreServed plan mode 0 replies held handed
+AreServed-start plan mode sound replies held handed logs empty rows bare none = record {
   logs = logs;
   done = λ log below. nothing log;
   fit = λ place inside served. absurd (unserved place served);
@@ -86,38 +86,38 @@ AllZip-from_places R (x ∷ xs) [] d e same each = absurd (omega arith)
 AllZip-from_places R (x ∷ xs) (y ∷ ys) d e same each = (each 0 (omega arith), AllZip-from_places R xs ys d e (omega arith) (λ i below. each (suc i) (omega arith)))
 
 -- after the last turn, each op has its reply
-long : (plan : Plan) → IsSound plan → (turns : ℕ) (replies : List (List Reply)) (held : List (List (Option ℕ))) (handed : List (Option ℕ))
-    → length plan.order ≤ turns → AreServed plan turns replies held handed
+long : (plan : Plan) (mode : Mode) → IsSound plan → (turns : ℕ) (replies : List (List Reply)) (held : List (List (Option ℕ))) (handed : List (Option ℕ))
+    → length plan.order ≤ turns → AreServed plan mode turns replies held handed
     → (log : ℕ) → log < length plan.logs → done_in replies log ≡ length (get_or plan.logs log [])
-long plan sound turns replies held handed all served log below = served.done log below ∙ ap (turns_had log) (take_all turns plan.order all) ∙ sound.turns log below
+long plan mode sound turns replies held handed all served log below = served.done log below ∙ ap (turns_had log) (take_all turns plan.order all) ∙ sound.turns log below
 
-pub Fits-served : (plan : Plan) → IsSound plan → (turns : ℕ) (replies : List (List Reply)) (held : List (List (Option ℕ))) (handed : List (Option ℕ))
-    → length plan.order ≤ turns → AreServed plan turns replies held handed → Fits plan plain replies
-Fits-served plan sound turns replies held handed all served = record { logs = served.logs; ops = ops }
+pub Fits-served : (plan : Plan) (mode : Mode) → IsSound plan → (turns : ℕ) (replies : List (List Reply)) (held : List (List (Option ℕ))) (handed : List (Option ℕ))
+    → length plan.order ≤ turns → AreServed plan mode turns replies held handed → Fits plan mode replies
+Fits-served plan mode sound turns replies held handed all served = record { logs = served.logs; ops = ops }
   where
     each : (log : ℕ) → log < length plan.logs → done_in replies log ≡ length (get_or plan.logs log [])
-    each = long plan sound turns replies held handed all served
+    each = long plan mode sound turns replies held handed all served
 
     ops : (log : ℕ) → log < length plan.logs
-        → AllZip (λ (op : Op) (reply : Reply). FitsOp plain (source_of plan.logs replies log (origin_of op)) op reply) (get_or plan.logs log []) (get_or replies log [])
+        → AllZip (λ (op : Op) (reply : Reply). FitsOp mode (source_of plan.logs replies log (origin_of op)) op reply) (get_or plan.logs log []) (get_or replies log [])
     ops log below =
-        AllZip-from_places (λ (op : Op) (reply : Reply). FitsOp plain (source_of plan.logs replies log (origin_of op)) op reply) (get_or plan.logs log []) (get_or replies log []) (Make 0 0 None) Absent (each log below)
+        AllZip-from_places (λ (op : Op) (reply : Reply). FitsOp mode (source_of plan.logs replies log (origin_of op)) op reply) (get_or plan.logs log []) (get_or replies log []) (Make 0 0 None) Absent (each log below)
         (λ i inside. served.fit (record { log = log; op = i }) (record { log = below; op = inside }) (omega (arith, each log below)))
 
 -- and nothing is under a number
-pub none-left : (plan : Plan) → IsSound plan → (turns : ℕ) (replies : List (List Reply)) (held : List (List (Option ℕ))) (handed : List (Option ℕ))
-    → length plan.order ≤ turns → AreServed plan turns replies held handed
+pub none-left : (plan : Plan) (mode : Mode) → IsSound plan → (turns : ℕ) (replies : List (List Reply)) (held : List (List (Option ℕ))) (handed : List (Option ℕ))
+    → length plan.order ≤ turns → AreServed plan mode turns replies held handed
     → (i : ℕ) → i < length handed → get_or handed i None ≡ None
-none-left plan sound turns replies held handed all served i below =
+none-left plan mode sound turns replies held handed all served i below =
     let numbered : IsNumbered plan (suc i) = record { least = omega arith; most = omega (arith, served.numbers) } in
     let off : IsHandedOff plan (suc i) = sound.handed (suc i) numbered in
     let at : suc i - 1 ≡ i = omega arith in
     subst (λ (k : ℕ). get_or handed k None ≡ None) at
-    (served.gone off.taker (suc i) off.taker_in (omega (arith, off.taker_in.op, long plan sound turns replies held handed all served off.taker.log off.taker_in.log)) off.taken)
+    (served.gone off.taker (suc i) off.taker_in (omega (arith, off.taker_in.op, long plan mode sound turns replies held handed all served off.taker.log off.taker_in.log)) off.taken)
 
-module _ {plan : Plan} {turn log : ℕ} {replies : List (List Reply)} {held : List (List (Option ℕ))} {handed : List (Option ℕ)} (sound : IsSound plan)
+module _ {plan : Plan} {mode : Mode} {turn log : ℕ} {replies : List (List Reply)} {held : List (List (Option ℕ))} {handed : List (Option ℕ)} (sound : IsSound plan)
     (within : turn < length plan.order) (is : get_or plan.order turn 0 ≡ log) (log_in : log < length plan.logs)
-    (served : AreServed plan turn replies held handed) where
+    (served : AreServed plan mode turn replies held handed) where
   abbrev place : Place
   place = next_place replies log
 
@@ -193,15 +193,15 @@ module _ {plan : Plan} {turn log : ℕ} {replies : List (List Reply)} {held : Li
         source_at-same plan sound replies more taker taker_in
         (λ maker takes. ap standing (adds.others maker (λ same. apart taker taker_in (had taker taker_in done) (subst (Takes plan taker) same takes))))
 
-    fit-more : FitsOp plain (source_at plan replies place) op reply → (other : Place) → IsIn plan other → IsServed more other
-        → FitsOp plain (source_at plan more other) (op_in plan other) (reply_at more other)
+    fit-more : FitsOp mode (source_at plan replies place) op reply → (other : Place) → IsIn plan other → IsServed more other
+        → FitsOp mode (source_at plan more other) (op_in plan other) (reply_at more other)
     fit-more fits other other_in now_served = ⊎_elim old new (adds.only other now_served)
       where
-        old : IsServed replies other → FitsOp plain (source_at plan more other) (op_in plan other) (reply_at more other)
+        old : IsServed replies other → FitsOp mode (source_at plan more other) (op_in plan other) (reply_at more other)
         old was = rw (source-more other other_in now_served) (rw (adds.others other (λ same. adds.new (subst (IsServed replies) same was))) (served.fit other other_in was))
 
-        new : other ≡ place → FitsOp plain (source_at plan more other) (op_in plan other) (reply_at more other)
-        new same = rw (source-more other other_in now_served) (subst (λ (p : Place). FitsOp plain (source_at plan replies p) (op_in plan p) (reply_at more p)) (sym same) (rw adds.here fits))
+        new : other ≡ place → FitsOp mode (source_at plan more other) (op_in plan other) (reply_at more other)
+        new same = rw (source-more other other_in now_served) (subst (λ (p : Place). FitsOp mode (source_at plan replies p) (op_in plan p) (reply_at more p)) (sym same) (rw adds.here fits))
 
     row-lined : length row ≡ place.op
     row-lined = served.lined log log_in
@@ -362,7 +362,7 @@ module _ {plan : Plan} {turn log : ℕ} {replies : List (List Reply)} {held : Li
             handed_without-claimed (origin_of op) handed number (ap (λ (p : Place). origin_of (op_in plan p)) (sym same) ∙ claim) numbered.least
             (omega (arith, served.numbers, numbered.most))
 
-    pub AreServed-more : FitsOp plain (source_at plan replies place) op reply → AreServed plan (turn + 1) more rows numbers
+    pub AreServed-more : FitsOp mode (source_at plan replies place) op reply → AreServed plan mode (turn + 1) more rows numbers
     AreServed-more fits = record {
       logs = length-set replies log (get_or replies log [] ++ reply ∷ []) ∙ served.logs;
       done = done-more;

@@ -14,13 +14,14 @@ use Rattle.ng_terms.specs.declared.plan.Op.{Op}
 use Rattle.ng_terms.specs.declared.plan.Op.TheVariants.{Make}
 use Rattle.ng_terms.specs.declared.plan.Origin.TheVariants.{Own, Claim}
 use Rattle.ng_terms.specs.declared.plan.Plan.{Plan}
+use Rattle.ng_terms.specs.declared.reply.Mode.{Mode}
 use Rattle.ng_terms.specs.declared.reply.Reply.{Reply}
-use Rattle.ng_terms.specs.Heap.{large}
-use Rattle.ng_terms.specs.Calls.{FitsOp, calls_of, handed_as, origin_of, size_of}
+use Rattle.ng_terms.specs.Calls.{FitsOp, calls_of, handed_as, origin_of}
 use Rattle.ng_replay.specs.Books.{hand_at}
+use Rattle.ng_replay.specs.Caps.{IsCapped}
 use Rattle.ng_replay.specs.Room.{HaveRoom}
 use Rattle.ng_replay.specs.Serial.{AreHeld, AreInHand, AreServed, IsNumberIn, IsVacant, KeepsBalance, at_of_parcel, blocks_in, handed_after, handed_in, handed_without, held_in, places_of, replies_in, row_after, source_at, source_with}
-use Rattle.ng_replay.specs.Serving.{IsCapOf, at_of, plain}
+use Rattle.ng_replay.specs.Serving.{IsCapOf, at_of}
 use Rattle.ng_replay.proofs.BookLemmas.{cap-op}
 use Rattle.ng_replay.proofs.HandLemmas.{AreInHand-more}
 use Rattle.ng_replay.proofs.RowLemmas.{get_or-there}
@@ -62,9 +63,9 @@ turn-of {plan = plan} {turn = turn} {row = row} order logs ops read place sound 
       ∙ ap (λ (o : List Op). op_of_log o (length row.items)) (read_is ∙ turn-ops order logs ops sound within order_is logs_is ops_is);
 }
 
-module _ {plan : Plan} {turn log : ℕ} {rows : List (Vec Reply)} {row : Vec Reply} {op : Op} (blocks : List (Vec (Option BlockToken)))
+module _ {plan : Plan} {mode : Mode} {turn log : ℕ} {rows : List (Vec Reply)} {row : Vec Reply} {op : Op} (blocks : List (Vec (Option BlockToken)))
     (parcels : List (Option ParcelToken)) (sound : IsSound plan) (this : IsTurnOf plan turn rows log row op)
-    (served : AreServed plan turn (replies_in rows) (held_in (blocks_in blocks)) (handed_in parcels)) where
+    (served : AreServed plan mode turn (replies_in rows) (held_in (blocks_in blocks)) (handed_in parcels)) where
   abbrev place : Place
   place = next_place (replies_in rows) log
 
@@ -101,8 +102,8 @@ module _ {plan : Plan} {turn log : ℕ} {rows : List (Vec Reply)} {row : Vec Rep
   pub row-room : HaveRoom plan.logs rows → length row.items < vec_capacity row
   row-room room = omega (arith, op-left, room log row row-in, ap vec_capacity this.row_is)
 
-  pub cap-kept : (cap : ℕ) → IsCapOf cap plan → size_of op < large → size_of op ≤ cap
-  cap-kept cap cap_of = subst (λ (o : Op). size_of o < large → size_of o ≤ cap) (sym op_same) (cap-op plan place cap place_in cap_of)
+  pub cap-kept : (cap : ℕ) → IsCapOf cap plan mode → IsCapped mode cap op
+  cap-kept cap cap_of = subst (IsCapped mode cap) (sym op_same) (cap-op plan mode place cap place_in cap_of)
 
   replies_same : (more : Vec Reply) (reply : Reply) → more.items ≡ row.items ++ reply ∷ []
       → replies_in (set rows log more) ≡ set (replies_in rows) log (get_or (replies_in rows) log [] ++ reply ∷ [])
@@ -134,14 +135,14 @@ module _ {plan : Plan} {turn log : ℕ} {rows : List (Vec Reply)} {row : Vec Rep
 
     pub served-more : (more : Vec Reply) (reply : Reply) (now : Vec (Option BlockToken)) (parcels_now : List (Option ParcelToken))
         → more.items ≡ row.items ++ reply ∷ []
-        → FitsOp plain (source_with (places_of mine.items) (handed_in parcels) (origin_of op)) op reply
+        → FitsOp mode (source_with (places_of mine.items) (handed_in parcels) (origin_of op)) op reply
         → places_of now.items ≡ row_after op reply (places_of mine.items)
         → handed_in parcels_now ≡ handed_after op reply (handed_in parcels)
-        → AreServed plan (turn + 1) (replies_in (set rows log more)) (held_in (blocks_in (set blocks log now))) (handed_in parcels_now)
+        → AreServed plan mode (turn + 1) (replies_in (set rows log more)) (held_in (blocks_in (set blocks log now))) (handed_in parcels_now)
     served-more more reply now parcels_now grown fits placed handed =
         rw (replies_same more reply grown)
-        (subst (λ (h : List (List (Option ℕ))). AreServed plan (turn + 1) (set (replies_in rows) log (get_or (replies_in rows) log [] ++ reply ∷ [])) h (handed_in parcels_now)) (sym held_same)
-        (subst (λ (h : List (Option ℕ)). AreServed plan (turn + 1) (set (replies_in rows) log (get_or (replies_in rows) log [] ++ reply ∷ [])) (set (held_in (blocks_in blocks)) log (row_after (op_in plan place) reply (get_or (held_in (blocks_in blocks)) log []))) h) (sym handed_same)
+        (subst (λ (h : List (List (Option ℕ))). AreServed plan mode (turn + 1) (set (replies_in rows) log (get_or (replies_in rows) log [] ++ reply ∷ [])) h (handed_in parcels_now)) (sym held_same)
+        (subst (λ (h : List (Option ℕ)). AreServed plan mode (turn + 1) (set (replies_in rows) log (get_or (replies_in rows) log [] ++ reply ∷ [])) (set (held_in (blocks_in blocks)) log (row_after (op_in plan place) reply (get_or (held_in (blocks_in blocks)) log []))) h) (sym handed_same)
         (AreServed-more sound this.turn_in this.log_is this.log_in served reply fits_here)))
       where
         held_same : held_in (blocks_in (set blocks log now)) ≡ set (held_in (blocks_in blocks)) log (row_after (op_in plan place) reply (get_or (held_in (blocks_in blocks)) log []))
@@ -158,12 +159,12 @@ module _ {plan : Plan} {turn log : ℕ} {rows : List (Vec Reply)} {row : Vec Rep
             ∙ ap (λ (o : Op). source_with (get_or (held_in (blocks_in blocks)) log []) (handed_in parcels) (origin_of o)) op_same
             ∙ served.ready place place_in (λ done. omega arith)
 
-        fits_here : FitsOp plain (source_at plan (replies_in rows) place) (op_in plan place) reply
-        fits_here = subst (λ (o : Op). FitsOp plain (source_at plan (replies_in rows) place) o reply) op_same (rw source_same at fits)
+        fits_here : FitsOp mode (source_at plan (replies_in rows) place) (op_in plan place) reply
+        fits_here = subst (λ (o : Op). FitsOp mode (source_at plan (replies_in rows) place) o reply) op_same (rw source_same at fits)
 
     -- the log's hand
     module _ {hands : List Caller} {hand : Caller} (hand_is : hand ≡ get_or hands log hand)
-        (held : AreInHand plan (replies_in rows) (blocks_in blocks) parcels hands) where
+        (held : AreInHand plan mode (replies_in rows) (blocks_in blocks) parcels hands) where
       hand_same : hand_at hands log ≡ hand
       hand_same = get_or-there hands log (fresh_caller 0 0) hand (omega (arith, held.books.count, this.log_in)) ∙ sym hand_is
 
@@ -175,11 +176,11 @@ module _ {plan : Plan} {turn log : ℕ} {rows : List (Vec Reply)} {row : Vec Rep
 
       pub hands-more : (more : Vec Reply) (reply : Reply) (now : Vec (Option BlockToken)) (parcels_now : List (Option ParcelToken)) (after : Caller)
           → more.items ≡ row.items ++ reply ∷ []
-          → KeepsFrames hand after → after.entries ≡ hand.entries ++ calls_of plain op reply → hand.spare ≤ after.spare + 2 → AreHeld after now.items
+          → KeepsFrames hand after → after.entries ≡ hand.entries ++ calls_of mode op reply → hand.spare ≤ after.spare + 2 → AreHeld after now.items
           → KeepsBalance hand after parcels parcels_now
-          → AreInHand plan (replies_in (set rows log more)) (blocks_in (set blocks log now)) parcels_now (set hands log after)
+          → AreInHand plan mode (replies_in (set rows log more)) (blocks_in (set blocks log now)) parcels_now (set hands log after)
       hands-more more reply now parcels_now after grown frames entered used kept balance =
           rw (replies_same more reply grown)
           (rw (blocks_same now)
-          (AreInHand-more plan (replies_in rows) (blocks_in blocks) parcels parcels_now hands log after now.items reply served.logs (omega (arith, served.rows, length-map (blocks_in blocks) places_of)) this.log_in place_in.op held
-          (rw hand_same frames) (rw hand_same (entered ∙ ap (λ (o : Op). hand.entries ++ calls_of plain o reply) op_same)) (omega (arith, ap (λ (h : Caller). h.spare) hand_same)) kept (rw hand_same balance)))
+          (AreInHand-more plan mode (replies_in rows) (blocks_in blocks) parcels parcels_now hands log after now.items reply served.logs (omega (arith, served.rows, length-map (blocks_in blocks) places_of)) this.log_in place_in.op held
+          (rw hand_same frames) (rw hand_same (entered ∙ ap (λ (o : Op). hand.entries ++ calls_of mode o reply) op_same)) (omega (arith, ap (λ (h : Caller). h.spare) hand_same)) kept (rw hand_same balance)))

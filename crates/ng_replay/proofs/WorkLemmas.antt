@@ -19,11 +19,11 @@ use Rattle.ng_terms.specs.declared.plan.Op.{Op}
 use Rattle.ng_terms.specs.declared.plan.Op.TheVariants.{Make}
 use Rattle.ng_terms.specs.declared.plan.Origin.{Origin}
 use Rattle.ng_terms.specs.declared.plan.Origin.TheVariants.{Own, Claim, Skip}
+use Rattle.ng_terms.specs.declared.reply.Mode.{Mode}
 use Rattle.ng_terms.specs.declared.reply.Reply.{Reply}
 use Rattle.ng_terms.specs.declared.reply.Reply.TheVariants.{Absent}
 use Rattle.ng_terms.specs.Calls.{FitsOp, calls_of, calls_of_log, handed_as, origin_of, standing}
 use Rattle.ng_replay.specs.Serial.{row_after, row_without, staying}
-use Rattle.ng_replay.specs.Serving.{plain}
 use Rattle.ng_replay.specs.Works.{AreDoing, MayDo, Serves, blocks_among, claimed_by, collected_as, collected_for, posted_for, posted_of, source_by, source_in}
 use Rattle.ng_replay.proofs.BookLemmas.{calls_of_log-push, zip-push}
 use Rattle.ng_replay.proofs.FlatLemmas.{Contains-map, find-push_no, find-push_yes, flat_map-place}
@@ -93,9 +93,9 @@ claimed-more ops i below =
     ∙ ap (λ (rest : List ℕ). flat_map claimed_by (take i ops) ++ rest) (append-nil (claimed_by (op_of_log ops i)))
 
 -- ---- one op on
-module _ {N : Type 0} {boxes : Boxes N} {cap : ℕ} {ops : List Op} {i log : ℕ} {was now : Caller} {before after : Door N} {row : List (Option ℕ)}
-    {replies : List Reply} {reply : Reply} (may : MayDo cap boxes.receivers.items ops) (below : i < length ops)
-    (doing : AreDoing boxes ops i log was before row replies) (serves : Serves before after was now row (op_of_log ops i) reply) where
+module _ {N : Type 0} {mode : Mode} {boxes : Boxes N} {cap : ℕ} {ops : List Op} {i log : ℕ} {was now : Caller} {before after : Door N} {row : List (Option ℕ)}
+    {replies : List Reply} {reply : Reply} (may : MayDo mode cap boxes.receivers.items ops) (below : i < length ops)
+    (doing : AreDoing mode boxes ops i log was before row replies) (serves : Serves mode before after was now row (op_of_log ops i) reply) where
   abbrev op : Op
   op = op_of_log ops i
 
@@ -142,16 +142,16 @@ module _ {N : Type 0} {boxes : Boxes N} {cap : ℕ} {ops : List Op} {i log : ℕ
       ∙ collected-here before.got.items serves.taken number (unclaimed-before number is)
   source-here Skip is = refl
 
-  pub fit-more : (k : ℕ) → k < i + 1 → FitsOp plain (source_by more after.got.items (origin_of (op_of_log ops k))) (op_of_log ops k) (get_or more k Absent)
+  pub fit-more : (k : ℕ) → k < i + 1 → FitsOp mode (source_by more after.got.items (origin_of (op_of_log ops k))) (op_of_log ops k) (get_or more k Absent)
   fit-more k within = ⊎_elim old new (cases_lt k i)
     where
-      old : k < i → FitsOp plain (source_by more after.got.items (origin_of (op_of_log ops k))) (op_of_log ops k) (get_or more k Absent)
+      old : k < i → FitsOp mode (source_by more after.got.items (origin_of (op_of_log ops k))) (op_of_log ops k) (get_or more k Absent)
       old first = rw (source-kept k first (origin_of (op_of_log ops k)) refl) (rw (earlier k first) (doing.fit k first))
 
-      new : i ≤ k → FitsOp plain (source_by more after.got.items (origin_of (op_of_log ops k))) (op_of_log ops k) (get_or more k Absent)
+      new : i ≤ k → FitsOp mode (source_by more after.got.items (origin_of (op_of_log ops k))) (op_of_log ops k) (get_or more k Absent)
       new last =
           let at : i ≡ k = omega arith in
-          subst (λ (n : ℕ). FitsOp plain (source_by more after.got.items (origin_of (op_of_log ops n))) (op_of_log ops n) (get_or more n Absent)) at
+          subst (λ (n : ℕ). FitsOp mode (source_by more after.got.items (origin_of (op_of_log ops n))) (op_of_log ops n) (get_or more n Absent)) at
           (rw (source-here (origin_of op) refl) (rw here serves.fits))
 
   left-lined : length (row_without (origin_of op) row) ≡ i
@@ -180,16 +180,16 @@ module _ {N : Type 0} {boxes : Boxes N} {cap : ℕ} {ops : List Op} {i log : ℕ
           (get_or_push (row_without (origin_of op) row) (staying (handed_as op) (standing reply)) None i left-lined
           ∙ ap (λ (given : Option ℕ). staying given (standing reply)) kept ∙ sym (ap standing here))
 
-  pub AreDoing-more : IsDoorOf boxes after → after.log ≡ before.log → KeepsFrames was now → now.entries ≡ was.entries ++ calls_of plain op reply
-      → was.spare ≤ now.spare + 2 → AreDoing boxes ops (i + 1) log now after (row_after op reply row) more
+  pub AreDoing-more : IsDoorOf boxes after → after.log ≡ before.log → KeepsFrames was now → now.entries ≡ was.entries ++ calls_of mode op reply
+      → was.spare ≤ now.spare + 2 → AreDoing mode boxes ops (i + 1) log now after (row_after op reply row) more
   AreDoing-more of_boxes log_is frames entered used = record {
     count = length_push replies reply ∙ ap (λ (n : ℕ). n + 1) doing.count;
     lined = lined-more;
     fit = fit-more;
     ready = ready-more;
     number = frames.number ∙ doing.number;
-    book = entered ∙ ap (λ (front : List _). front ++ calls_of plain op reply) doing.book
-        ∙ ap (λ (n : ℕ). calls_of_log plain ops replies ++ calls_of plain (op_of_log ops n) reply) (sym doing.count) ∙ sym (calls_of_log-push ops replies reply (omega (arith, doing.count)));
+    book = entered ∙ ap (λ (front : List _). front ++ calls_of mode op reply) doing.book
+        ∙ ap (λ (n : ℕ). calls_of_log mode ops replies ++ calls_of mode (op_of_log ops n) reply) (sym doing.count) ∙ sym (calls_of_log-push mode ops replies reply (omega (arith, doing.count)));
     framed = frames.each doing.framed;
     spare = omega (arith, doing.spare, used);
     of_boxes = of_boxes;

@@ -6,6 +6,7 @@ use Rattle.ng_post.specs.Doors.{IsDoorOf}
 use Rattle.ng_space.specs.Callers.{Caller, fresh_caller}
 use Rattle.ng_terms.specs.declared.plan.Op.{Op}
 use Rattle.ng_terms.specs.declared.plan.Plan.{Plan}
+use Rattle.ng_terms.specs.declared.reply.Mode.{Mode}
 use Rattle.ng_terms.specs.declared.reply.Reply.{Reply}
 use Rattle.ng_replay.specs.Books.{hand_at}
 use Rattle.ng_replay.specs.Works.{AreDone, MayDo}
@@ -58,8 +59,8 @@ pub record HavePlaces {N : Type 0} (places : Places N) (plan : Plan) : Type 0 wh
   pub replies : length plan.logs ≤ vec_capacity places.replies
 
 -- a worker may begin with the ops of its log: nothing was done by its hand and its door, and there is room for all
-pub record IsReady {N : Type 0} (boxes : Boxes N) (cap : ℕ) (ops : List Op) (log : ℕ) (worker : Worker N) : Type 0 where
-  pub may : MayDo cap boxes.receivers.items ops
+pub record IsReady {N : Type 0} (mode : Mode) (boxes : Boxes N) (cap : ℕ) (ops : List Op) (log : ℕ) (worker : Worker N) : Type 0 where
+  pub may : MayDo mode cap boxes.receivers.items ops
   pub hand : worker.hand ≡ fresh_caller (log + 1) (2 * length ops)
   pub door : IsDoorOf boxes worker.door
   pub log_is : worker.door.log ≡ log
@@ -70,22 +71,22 @@ pub record IsReady {N : Type 0} (boxes : Boxes N) (cap : ℕ) (ops : List Op) (l
   pub room : HasRoomToWork ops worker
 
 -- a worker has done the ops of its log
-abbrev pub HasDone : {N : Type 0} → Boxes N → List Op → ℕ → Worker N → Type 0
-HasDone boxes ops log worker = AreDone boxes ops log worker.hand worker.door worker.replies.items
+abbrev pub HasDone : {N : Type 0} → Mode → Boxes N → List Op → ℕ → Worker N → Type 0
+HasDone mode boxes ops log worker = AreDone mode boxes ops log worker.hand worker.door worker.replies.items
 
 -- all workers of a plan may begin, and all have done their ops
-pub record AreReady {N : Type 0} (boxes : Boxes N) (cap : ℕ) (plan : Plan) (workers : List (Worker N)) : Type 0 where
+pub record AreReady {N : Type 0} (mode : Mode) (boxes : Boxes N) (cap : ℕ) (plan : Plan) (workers : List (Worker N)) : Type 0 where
   pub count : length workers ≡ length plan.logs
-  pub each : (log : ℕ) (w : Worker N) → log < length plan.logs → IsReady boxes cap (slice_index_or plan.logs log []) log (slice_index_or workers log w)
+  pub each : (log : ℕ) (w : Worker N) → log < length plan.logs → IsReady mode boxes cap (slice_index_or plan.logs log []) log (slice_index_or workers log w)
 
-pub record HaveDone {N : Type 0} (boxes : Boxes N) (plan : Plan) (workers : List (Worker N)) : Type 0 where
+pub record HaveDone {N : Type 0} (mode : Mode) (boxes : Boxes N) (plan : Plan) (workers : List (Worker N)) : Type 0 where
   pub count : length workers ≡ length plan.logs
-  pub each : (log : ℕ) (w : Worker N) → log < length plan.logs → HasDone boxes (slice_index_or plan.logs log []) log (slice_index_or workers log w)
+  pub each : (log : ℕ) (w : Worker N) → log < length plan.logs → HasDone mode boxes (slice_index_or plan.logs log []) log (slice_index_or workers log w)
 
 -- the ops of all logs were done: what each log's worker left
-pub record AreEnded {N : Type 0} (boxes : Boxes N) (plan : Plan) (hands : List Caller) (doors : List (Door N)) (replies : List (List Reply)) : Type 0 where
+pub record AreEnded {N : Type 0} (mode : Mode) (boxes : Boxes N) (plan : Plan) (hands : List Caller) (doors : List (Door N)) (replies : List (List Reply)) : Type 0 where
   pub many_hands : length hands ≡ length plan.logs
   pub many_doors : length doors ≡ length plan.logs
   pub many_replies : length replies ≡ length plan.logs
   pub each : (log : ℕ) (d : Door N) → log < length plan.logs
-      → AreDone boxes (slice_index_or plan.logs log []) log (hand_at hands log) (slice_index_or doors log d) (slice_index_or replies log [])
+      → AreDone mode boxes (slice_index_or plan.logs log []) log (hand_at hands log) (slice_index_or doors log d) (slice_index_or replies log [])

@@ -12,12 +12,13 @@ use Rattle.ng_terms.specs.declared.plan.Op.{Op}
 use Rattle.ng_terms.specs.declared.plan.Origin.{Origin}
 use Rattle.ng_terms.specs.declared.plan.Origin.TheVariants.{Own, Claim, Skip}
 use Rattle.ng_terms.specs.declared.plan.Plan.{Plan}
+use Rattle.ng_terms.specs.declared.reply.Mode.{Mode}
 use Rattle.ng_terms.specs.declared.reply.Reply.{Reply}
 use Rattle.ng_terms.specs.declared.reply.Reply.TheVariants.{Absent}
 use Rattle.ng_terms.specs.Accounts.{IsMostBound}
 use Rattle.ng_terms.specs.Calls.{FitsOp, handed_as, origin_of, source_of, standing}
 use Rattle.ng_replay.specs.Books.{AreAllFramed, AreBooks, hand_at}
-use Rattle.ng_replay.specs.Serving.{IsApartFrom, at_of, plain}
+use Rattle.ng_replay.specs.Serving.{IsApartFrom, at_of}
 
 -- the replies in each row
 abbrev pub replies_in : List (Vec Reply) → List (List Reply)
@@ -126,10 +127,10 @@ IsServed replies place = place.op < done_in replies place.log
 
 -- so many turns of the plan are done: their replies, and where the blocks of the logs and those under the numbers stand. What
 -- an op without a reply is to take lies ready for it, and what an op with a reply took is under no number
-pub record AreServed (plan : Plan) (turns : ℕ) (replies : List (List Reply)) (held : List (List (Option ℕ))) (handed : List (Option ℕ)) : Type 0 where
+pub record AreServed (plan : Plan) (mode : Mode) (turns : ℕ) (replies : List (List Reply)) (held : List (List (Option ℕ))) (handed : List (Option ℕ)) : Type 0 where
   pub logs : length replies ≡ length plan.logs
   pub done : (log : ℕ) → log < length plan.logs → done_in replies log ≡ turns_had log (take turns plan.order)
-  pub fit : (place : Place) → IsIn plan place → IsServed replies place → FitsOp plain (source_at plan replies place) (op_in plan place) (reply_at replies place)
+  pub fit : (place : Place) → IsIn plan place → IsServed replies place → FitsOp mode (source_at plan replies place) (op_in plan place) (reply_at replies place)
   pub rows : length held ≡ length plan.logs
   pub lined : (log : ℕ) → log < length plan.logs → length (slice_index_or held log []) ≡ done_in replies log
   pub numbers : length handed ≡ length plan.receivers
@@ -157,9 +158,9 @@ abbrev pub KeepsBalance : Caller → Caller → List (Option ParcelToken) → Li
 KeepsBalance before after was now = (after.view.sent + before.view.taken) + underway was ≡ (before.view.sent + after.view.taken) + underway now
 
 -- each log's hand has the log's calls in its book, with room for two more for each op without a reply, and holds its blocks
-pub record AreInHand (plan : Plan) (replies : List (List Reply)) (blocks : List (List (Option BlockToken))) (parcels : List (Option ParcelToken))
+pub record AreInHand (plan : Plan) (mode : Mode) (replies : List (List Reply)) (blocks : List (List (Option BlockToken))) (parcels : List (Option ParcelToken))
     (hands : List Caller) : Type 0 where
-  pub books : AreBooks plan replies hands
+  pub books : AreBooks plan mode replies hands
   pub spare : (log : ℕ) → log < length plan.logs → 2 * length (slice_index_or plan.logs log []) ≤ (hand_at hands log).spare + 2 * done_in replies log
   pub held : (log : ℕ) → log < length plan.logs → AreHeld (hand_at hands log) (slice_index_or blocks log [])
   pub framed : AreAllFramed hands

@@ -10,14 +10,14 @@ use Rattle.ng_post.specs.Ends.{is_of, is_sent}
 use Rattle.ng_post.specs.Letters.{Pair}
 use Rattle.ng_space.specs.Callers.{Caller}
 use Rattle.ng_space.specs.Leaving.{AreFramed}
-use Rattle.ng_terms.specs.Calls.{FitsOp, calls_of_log, handed_as, origin_of, size_of, standing}
-use Rattle.ng_terms.specs.Heap.{large}
+use Rattle.ng_terms.specs.Calls.{FitsOp, calls_of_log, handed_as, origin_of, standing}
 use Rattle.ng_terms.specs.declared.plan.Op.{Op}
 use Rattle.ng_terms.specs.declared.plan.Origin.{Origin}
 use Rattle.ng_terms.specs.declared.plan.Origin.TheVariants.{Own, Claim, Skip}
+use Rattle.ng_terms.specs.declared.reply.Mode.{Mode}
 use Rattle.ng_terms.specs.declared.reply.Reply.{Reply}
 use Rattle.ng_terms.specs.declared.reply.Reply.TheVariants.{Absent}
-use Rattle.ng_replay.specs.Serving.{plain}
+use Rattle.ng_replay.specs.Caps.{IsCapped}
 
 -- what an op takes: one of its log's own blocks, or what was collected for it
 abbrev pub source_in : List (Option ℕ) → Option ℕ → Origin → Option ℕ
@@ -53,9 +53,9 @@ pub record Collects {N : Type 0} (before after : Door N) (was now : Caller) (row
   pub unsent : now.view.sent ≡ was.view.sent
 
 -- an op was served: its reply fits what it took, and what stands for it was posted where the plan hands it off
-pub record Serves {N : Type 0} (before after : Door N) (was now : Caller) (row : List (Option ℕ)) (op : Op) (reply : Reply) : Type 0 where
+pub record Serves {N : Type 0} (mode : Mode) (before after : Door N) (was now : Caller) (row : List (Option ℕ)) (op : Op) (reply : Reply) : Type 0 where
   pub taken : Option ℕ
-  pub fits : FitsOp plain (source_in row taken (origin_of op)) op reply
+  pub fits : FitsOp mode (source_in row taken (origin_of op)) op reply
   pub got : after.got.items ≡ before.got.items ++ collected_for (origin_of op) taken
   pub sent : after.sent.items ≡ before.sent.items ++ posted_for (handed_as op) (standing reply)
   pub counted : now.view.taken ≡ was.view.taken + blocks_among (collected_for (origin_of op) taken)
@@ -76,22 +76,22 @@ source_by replies got (Claim number) = collected_as got number
 source_by replies got Skip = None
 
 -- the ops of a log may be done: each own block is made by an earlier op that doesn't hand it off, no number is claimed
--- twice, what is handed off has a number, and no size is above the cap
-pub record MayDo (cap : ℕ) (receivers : List ℕ) (ops : List Op) : Type 0 where
+-- twice, what is handed off has a number, and none asks for more than the cap
+pub record MayDo (mode : Mode) (cap : ℕ) (receivers : List ℕ) (ops : List Op) : Type 0 where
   pub own : TakesOwnOps ops
   pub kept : (i op : ℕ) → i < length ops → origin_of (op_of_log ops i) ≡ Own op → handed_as (op_of_log ops op) ≡ None
   pub once : (i j number : ℕ) → i < length ops → j < length ops → origin_of (op_of_log ops i) ≡ Claim number → origin_of (op_of_log ops j) ≡ Claim number → i ≡ j
   pub given : (i number : ℕ) → i < length ops → handed_as (op_of_log ops i) ≡ Some number → IsNumber receivers number
-  pub sizes : (i : ℕ) → i < length ops → size_of (op_of_log ops i) < large → size_of (op_of_log ops i) ≤ cap
+  pub sizes : (i : ℕ) → i < length ops → IsCapped mode cap (op_of_log ops i)
 
 -- the ops of a log were done: each reply fits, by the log's own replies and what was collected; the book is their calls; what
 -- stands for an op that is handed off was posted, and each claim collected
-pub record AreDone {N : Type 0} (boxes : Boxes N) (ops : List Op) (log : ℕ) (hand : Caller) (door : Door N) (replies : List Reply) : Type 0 where
+pub record AreDone {N : Type 0} (mode : Mode) (boxes : Boxes N) (ops : List Op) (log : ℕ) (hand : Caller) (door : Door N) (replies : List Reply) : Type 0 where
   pub count : length replies ≡ length ops
   pub fit : (i : ℕ) → i < length ops
-      → FitsOp plain (source_by replies door.got.items (origin_of (op_of_log ops i))) (op_of_log ops i) (slice_index_or replies i Absent)
+      → FitsOp mode (source_by replies door.got.items (origin_of (op_of_log ops i))) (op_of_log ops i) (slice_index_or replies i Absent)
   pub number : hand.number ≡ log + 1
-  pub book : hand.entries ≡ calls_of_log plain ops replies
+  pub book : hand.entries ≡ calls_of_log mode ops replies
   pub framed : AreFramed hand.view
   pub of_boxes : IsDoorOf boxes door
   pub log_is : door.log ≡ log
@@ -101,15 +101,15 @@ pub record AreDone {N : Type 0} (boxes : Boxes N) (ops : List Op) (log : ℕ) (h
   pub counted : hand.view.taken ≡ blocks_among door.got.items
 
 -- so many ops of a log were done, and what a later op is to take of the log's own stands ready for it
-pub record AreDoing {N : Type 0} (boxes : Boxes N) (ops : List Op) (done : ℕ) (log : ℕ) (hand : Caller) (door : Door N) (places : List (Option ℕ)) (replies : List Reply) : Type 0 where
+pub record AreDoing {N : Type 0} (mode : Mode) (boxes : Boxes N) (ops : List Op) (done : ℕ) (log : ℕ) (hand : Caller) (door : Door N) (places : List (Option ℕ)) (replies : List Reply) : Type 0 where
   pub count : length replies ≡ done
   pub lined : length places ≡ done
   pub fit : (i : ℕ) → i < done
-      → FitsOp plain (source_by replies door.got.items (origin_of (op_of_log ops i))) (op_of_log ops i) (slice_index_or replies i Absent)
+      → FitsOp mode (source_by replies door.got.items (origin_of (op_of_log ops i))) (op_of_log ops i) (slice_index_or replies i Absent)
   pub ready : (i op : ℕ) → done ≤ i → i < length ops → origin_of (op_of_log ops i) ≡ Own op → op < done
       → slice_index_or places op None ≡ standing (slice_index_or replies op Absent)
   pub number : hand.number ≡ log + 1
-  pub book : hand.entries ≡ calls_of_log plain ops replies
+  pub book : hand.entries ≡ calls_of_log mode ops replies
   pub framed : AreFramed hand.view
   pub spare : 2 * length ops ≤ hand.spare + 2 * done
   pub of_boxes : IsDoorOf boxes door

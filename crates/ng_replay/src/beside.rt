@@ -1,20 +1,23 @@
 // An op of a log beside others, over a heap that threads share.
-ghost use Rattle.std.specs.Prelude.{◌≡◌, ◌+◌, ◌<◌, ◌≤◌, ◌++◌, ◌∷◌, [], IfSome, None};
-ghost use Rattle.ng_space.specs.Leaving.{KeepsOthers, KeepsRest, KeepsSlots};
-ghost use Rattle.ng_group.specs.Hands.{IsApart};
-ghost use Rattle.ng_heap.specs.Keeps.{IsFresh, KeepsFrames};
-ghost use Rattle.ng_replay.specs.Serving.{IsApartFrom, at_of, plain};
-ghost use Rattle.ng_space.specs.Blocks.{BlockToken, HasFramed};
-ghost use Rattle.ng_terms.specs.Calls.{FitsMade, FitsMoved, FitsOp, calls_for, calls_of, calls_of_make, reply_of, reply_of_free, size_of, standing};
+ghost use Rattle.std.specs.Prelude.{◌≡◌, ◌+◌, ◌<◌, ◌≤◌, ◌++◌, ◌∷◌, [], IfSome, IsTrue, None};
+ghost use Rattle.ng_space.specs.Leaving.{KeepsOthers, KeepsRest};
+ghost use Rattle.ng_heap.specs.Keeps.{KeepsFrames};
+ghost use Rattle.ng_replay.specs.Caps.{IsCapped, IsSizeCapped};
+ghost use Rattle.ng_replay.specs.Serving.{IsApartFrom, Makes, Resizes, at_of};
+ghost use Rattle.ng_bytes.specs.Contents.{AreZero};
+ghost use Rattle.ng_space.specs.Blocks.{BlockToken, HasFramed, OfSlot};
+ghost use Rattle.ng_terms.specs.Calls.{FitsOp, calls_for, calls_of, reply_of, reply_of_free, standing};
 ghost use Rattle.ng_terms.specs.Heap.{large};
 ghost use Rattle.ng_terms.specs.declared.entry.Entry.TheVariants.{Take};
 
+use crate::make::{aligned_outcome, outcome, resized_outcome};
 use crate::op::{leave, reply_to_make};
-use ng_heap::{AllocRefusal, SharedHeap};
+use ng_heap::SharedHeap;
 use ng_mapper::Mapper;
 use ng_policy::Rules;
+use ng_resize::{aligned_alloc, realloc};
 use ng_space::{Block, Hand, Name};
-use ng_terms::{Made, Op, Origin, Reply};
+use ng_terms::{Made, Mode, Op, Origin, Reply};
 use std::sync::Wait;
 
 /// Does an op by its log's hand, beside other logs. `source` is the block that the op takes; one that it doesn't take stays in the hand. Beside
@@ -24,13 +27,14 @@ pub fn do_op<N: Name, M: Mapper, P: Rules, R: Wait>(
     heap: &SharedHeap<N, M, P>,
     hand: &mut Hand<N>,
     op: &Op,
+    mode: Mode,
     source: Option<Block<N>>,
 ) -> (Reply, Option<Block<N>>)
     requires room { 2 ≤ hand.old.spare }
-    requires cap { size_of op.now < large → size_of op.now ≤ N.facts.start.cap }
+    requires cap { IsCapped mode N.facts.start.cap op.now }
     requires framed { IfSome source (HasFramed hand.old) }
-    ensures fits { FitsOp plain (at_of source) op.now result.0 }
-    ensures entries { hand.new.entries ≡ hand.old.entries ++ calls_of plain op.now result.0 }
+    ensures fits { FitsOp mode (at_of source) op.now result.0 }
+    ensures entries { hand.new.entries ≡ hand.old.entries ++ calls_of mode op.now result.0 }
     ensures stands { at_of result.1 ≡ standing result.0 }
     ensures framed { IfSome result.1 (HasFramed hand.new) }
 
@@ -49,7 +53,8 @@ pub fn do_op<N: Name, M: Mapper, P: Rules, R: Wait>(
             to: _,
         } => {
             leave(hand, source);
-            make_anew(rt, heap, hand, size)
+            let (made, block) = make(rt, heap, hand, size, mode);
+            (reply_to_make(made), block)
         }
         Op::Free { name: _, from } => (free(rt, heap, hand, from, source), None),
         Op::Move {
@@ -61,7 +66,7 @@ pub fn do_op<N: Name, M: Mapper, P: Rules, R: Wait>(
         } => match source {
             Some(old) => move_from(rt, heap, hand, old, size),
             None => {
-                let (made, block) = make(rt, heap, hand, size);
+                let (made, block) = make(rt, heap, hand, size, mode);
                 (
                     Reply::Fresh {
                         skipped: from == Origin::Skip,
@@ -80,49 +85,23 @@ fn make<N: Name, M: Mapper, P: Rules, R: Wait>(
     heap: &SharedHeap<N, M, P>,
     hand: &mut Hand<N>,
     size: u64,
+    mode: Mode,
 ) -> (Made, Option<Block<N>>)
     requires spare { 1 ≤ hand.old.spare }
-    requires cap { size < large → size ≤ N.facts.start.cap }
-    ensures fits { FitsMade plain size result.0 }
-    ensures entries { hand.new.entries ≡ hand.old.entries ++ calls_of_make plain size result.0 }
-    ensures stands { at_of result.1 ≡ standing (reply_of result.0) }
-    ensures framed { IfSome result.1 (HasFramed hand.new) }
-    ensures fresh { IfSome result.1 (λ block. IsFresh hand.old block.slot) }
-
-    ensures slots { KeepsSlots hand.old.view hand.new.view }
-    ensures frames { KeepsFrames hand.old hand.new }
-    ensures rest { KeepsRest hand.old.view hand.new.view }
-    ensures spare { hand.new.spare + 1 ≡ hand.old.spare }
+    requires cap { IsSizeCapped mode N.facts.start.cap size }
+    ensures made { Makes mode size hand.old result.0 result.1 hand.new }
+    ensures zeroed { mode.align ≡ None → IsTrue mode.zero → IfSome result.1 (λ block. OfSlot hand.new block.slot (AreZero block.at block.len)) }
 {
-    match heap.malloc(rt, hand, size) {
-        Ok(block) => (Made::Given { at: block.at() }, Some(block)),
-        Err(AllocRefusal::NoMemory { excuse }) => (Made::NoMemory { excuse }, None),
-        Err(AllocRefusal::TooLarge) => (Made::TooLarge, None),
+    match mode.align {
+        Some(align) => aligned_outcome(aligned_alloc(heap, rt, hand, align, size)),
+        None => {
+            if mode.zero {
+                outcome(heap.calloc(rt, hand, 1, size))
+            } else {
+                outcome(heap.malloc(rt, hand, size))
+            }
+        }
     }
-}
-
-/// Makes a block, and tells the reply to the make.
-fn make_anew<N: Name, M: Mapper, P: Rules, R: Wait>(
-    rt: &R,
-    heap: &SharedHeap<N, M, P>,
-    hand: &mut Hand<N>,
-    size: u64,
-) -> (Reply, Option<Block<N>>)
-    requires spare { 1 ≤ hand.old.spare }
-    requires cap { size < large → size ≤ N.facts.start.cap }
-    ensures fits { (made : Made) × (result.0 ≡ reply_of made) × FitsMade plain size made }
-    ensures entries { hand.new.entries ≡ hand.old.entries ++ calls_for plain size result.0 }
-    ensures stands { at_of result.1 ≡ standing result.0 }
-    ensures framed { IfSome result.1 (HasFramed hand.new) }
-    ensures fresh { IfSome result.1 (λ block. IsFresh hand.old block.slot) }
-
-    ensures slots { KeepsSlots hand.old.view hand.new.view }
-    ensures frames { KeepsFrames hand.old hand.new }
-    ensures rest { KeepsRest hand.old.view hand.new.view }
-    ensures spare { hand.new.spare + 1 ≡ hand.old.spare }
-{
-    let (made, block) = make(rt, heap, hand, size);
-    (reply_to_make(made), block)
 }
 
 /// Frees the source, where there is one.
@@ -136,7 +115,7 @@ fn free<N: Name, M: Mapper, P: Rules, R: Wait>(
     requires room { 1 ≤ hand.old.spare }
     requires framed { IfSome source (HasFramed hand.old) }
     ensures fits { result ≡ reply_of_free from (at_of source) }
-    ensures entries { hand.new.entries ≡ hand.old.entries ++ calls_for plain 0 result }
+    ensures entries { (mode : Mode) → hand.new.entries ≡ hand.old.entries ++ calls_for mode 0 result }
     ensures stands { standing result ≡ None }
 
     ensures others { (other : BlockToken) → IsApartFrom source other → HasFramed hand.old other → HasFramed hand.new other }
@@ -180,7 +159,7 @@ fn free_framed<N: Name, M: Mapper, P: Rules, R: Wait>(
     }
 }
 
-/// Moves a block to a new one of a size. Where the new one is refused the old one stands.
+/// Gives a block another length, where it stands or by a move. Where that is refused it stands as it was.
 fn move_from<N: Name, M: Mapper, P: Rules, R: Wait>(
     rt: &R,
     heap: &SharedHeap<N, M, P>,
@@ -191,35 +170,8 @@ fn move_from<N: Name, M: Mapper, P: Rules, R: Wait>(
     requires room { 2 ≤ hand.old.spare }
     requires cap { size < large → size ≤ N.facts.start.cap }
     requires framed { HasFramed hand.old old }
-    ensures fits { FitsMoved old.at size result.0 }
-    ensures entries { hand.new.entries ≡ hand.old.entries ++ calls_for plain size result.0 }
-    ensures stands { at_of result.1 ≡ standing result.0 }
-    ensures framed { IfSome result.1 (HasFramed hand.new) }
-
-    ensures others { (other : BlockToken) → IsApart other.slot old.slot → HasFramed hand.old other → HasFramed hand.new other }
-    ensures apart { (other : BlockToken) → IsApart other.slot old.slot → HasFramed hand.old other → IsApartFrom result.1 other }
-
-    ensures frames { KeepsFrames hand.old hand.new }
-    ensures rest { KeepsRest hand.old.view hand.new.view }
-    ensures spare { hand.old.spare ≤ hand.new.spare + 2 }
+    ensures { Resizes size hand.old old result.0 result.1 hand.new }
 {
     let at = old.at();
-    match heap.malloc(rt, hand, size) {
-        Ok(block) => {
-            let reply = Reply::Moved {
-                old: at,
-                at: block.at(),
-            };
-            free_framed(rt, heap, hand, old);
-            (reply, Some(block))
-        }
-        Err(AllocRefusal::NoMemory { excuse }) => {
-            let reply = Reply::NoMemory {
-                old: Some(at),
-                excuse,
-            };
-            (reply, Some(old))
-        }
-        Err(AllocRefusal::TooLarge) => (Reply::TooLarge { old: Some(at) }, Some(old)),
-    }
+    resized_outcome(at, realloc(heap, rt, hand, old, size))
 }

@@ -1,32 +1,33 @@
 // The largest request of a plan.
-ghost use Rattle.std.specs.Prelude.{◌≡◌, ◌<◌, ◌≤◌, max};
-ghost use Rattle.ng_replay.specs.Caps.{IsCapIn};
+ghost use Rattle.std.specs.Prelude.{◌≡◌, ◌⊎◌, ◌+◌, ◌-◌, ◌<◌, ◌≤◌, ℕ, max};
+ghost use Rattle.ng_replay.specs.Caps.{IsCapIn, IsCapped};
 ghost use Rattle.ng_replay.specs.Serving.{IsCapOf};
-ghost use Rattle.ng_terms.specs.Calls.{size_of};
+ghost use Rattle.ng_terms.specs.Accounts.{Asks};
 ghost use Rattle.ng_terms.specs.Heap.{large};
 
-use ng_terms::{LARGE, Op, Plan};
+use crate::make::alignment;
+use ng_terms::{LARGE, Mode, Op, Plan};
 
-/// The most bytes that an op of the plan asks for, but for those that are too large.
-pub fn cap_of(plan: &Plan) -> u64
-    ensures cap { IsCapOf result plan.now }
+/// The most bytes that an op of the plan asks for under the mode, but for those that are too many; or 0.
+pub fn cap_of(plan: &Plan, mode: Mode) -> u64
+    ensures cap { IsCapOf result plan.now mode }
     ensures small { result < large }
 {
     let mut cap = 0;
     for ops in plan.logs.as_slice() {
-        cap = larger(cap, cap_of_log(ops.as_slice()));
+        cap = larger(cap, cap_of_log(ops.as_slice(), mode));
     }
     cap
 }
 
-/// The most bytes that an op of a log asks for, but for those that are too large.
-fn cap_of_log(ops: &[Op]) -> u64
-    ensures cap { IsCapIn ops.now result }
+/// The most bytes that an op of a log asks for, but for those that are too many; or 0.
+fn cap_of_log(ops: &[Op], mode: Mode) -> u64
+    ensures cap { IsCapIn mode ops.now result }
     ensures small { result < large }
 {
     let mut cap = 0;
     for op in ops {
-        cap = larger(cap, asked_size(op));
+        cap = larger(cap, asked_by(op, mode));
     }
     cap
 }
@@ -38,18 +39,18 @@ fn larger(cap: u64, size: u64) -> u64
     cap.max(size)
 }
 
-/// The bytes that an op asks for, or 0 where they are too many.
-fn asked_size(op: &Op) -> u64
-    ensures some { size_of op.now < large → result ≡ size_of op.now }
-    ensures none { large ≤ size_of op.now → result ≡ 0 }
+/// The most bytes that an op asks for, but for those that are too many; or 0.
+fn asked_by(op: &Op, mode: Mode) -> u64
+    ensures asked { (result ≡ 0) ⊎ Asks mode op.now result }
+    ensures capped { IsCapped mode result op.now }
     ensures small { result < large }
 {
-    let size = match *op {
+    match *op {
         Op::Make {
             name: _,
             size,
             to: _,
-        } => size,
+        } => most_asked(size, alignment(mode)),
         Op::Free { name: _, from: _ } => 0,
         Op::Move {
             old: _,
@@ -57,7 +58,22 @@ fn asked_size(op: &Op) -> u64
             from: _,
             size,
             to: _,
-        } => size,
-    };
-    if size < LARGE { size } else { 0 }
+        } => most_asked(size, alignment(mode)),
+    }
+}
+
+/// The greater of a size, and of the size with the room to align in, that isn't too many; or 0.
+fn most_asked(size: u64, align: u64) -> u64
+    ensures asked { (result ≡ 0) ⊎ ((result ≡ size) ⊎ (result ≡ size + max align 16 - 16)) }
+    ensures greatest { (bytes : ℕ) → (bytes ≡ size) ⊎ (bytes ≡ size + max align 16 - 16) → bytes < large → bytes ≤ result }
+    ensures small { result < large }
+{
+    let aligned = size.saturating_add(align.max(16) - 16);
+    if aligned < LARGE {
+        aligned
+    } else if size < LARGE {
+        size
+    } else {
+        0
+    }
 }

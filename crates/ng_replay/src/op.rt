@@ -1,20 +1,21 @@
 ghost use Rattle.std.specs.Prelude.{◌≡◌, ◌+◌, ◌<◌, ◌≤◌, ◌++◌, ◌∷◌, [], IfSome, None};
-ghost use Rattle.ng_space.specs.Leaving.{KeepsOthers, KeepsRest, KeepsSlots};
-ghost use Rattle.ng_group.specs.Hands.{IsApart};
-ghost use Rattle.ng_heap.specs.Keeps.{IsFresh, KeepsFrames};
-ghost use Rattle.ng_replay.specs.Serving.{IsApartFrom, at_of, plain};
+ghost use Rattle.ng_space.specs.Leaving.{KeepsOthers, KeepsRest};
+ghost use Rattle.ng_heap.specs.Keeps.{KeepsFrames};
+ghost use Rattle.ng_replay.specs.Caps.{IsCapped, IsSizeCapped};
+ghost use Rattle.ng_replay.specs.Serving.{IsApartFrom, Makes, Resizes, at_of};
 ghost use Rattle.ng_space.specs.Blocks.{BlockToken, HasFramed};
-ghost use Rattle.ng_terms.specs.Calls.{FitsMade, FitsMoved, FitsOp, calls_for, calls_of, reply_of, reply_of_free, size_of, standing};
+ghost use Rattle.ng_terms.specs.Calls.{FitsOp, calls_for, calls_of, reply_of, reply_of_free, standing};
 ghost use Rattle.ng_terms.specs.Heap.{large};
 ghost use Rattle.ng_terms.specs.declared.entry.Entry.TheVariants.{Take};
 
-use crate::make::make;
+use crate::make::{make, resized_outcome};
 use ng_group::Core;
-use ng_heap::{AllocRefusal, Heap};
+use ng_heap::Heap;
 use ng_mapper::Mapper;
 use ng_policy::Rules;
+use ng_resize::realloc_in;
 use ng_space::{Block, Hand, Name};
-use ng_terms::{Made, Op, Origin, Reply};
+use ng_terms::{Made, Mode, Op, Origin, Reply};
 
 /// Does an op by its log's hand. `source` is the block that the op takes; one that it doesn't take stays in the hand. Beside
 /// the reply comes the block that stands for the op then.
@@ -23,13 +24,14 @@ pub fn do_op<N: Name, M: Mapper, P: Rules>(
     core: &mut Core<N, M, P>,
     hand: &mut Hand<N>,
     op: &Op,
+    mode: Mode,
     source: Option<Block<N>>,
 ) -> (Reply, Option<Block<N>>)
     requires room { 2 ≤ hand.old.spare }
-    requires cap { size_of op.now < large → size_of op.now ≤ N.facts.start.cap }
+    requires cap { IsCapped mode N.facts.start.cap op.now }
     requires framed { IfSome source (HasFramed hand.old) }
-    ensures fits { FitsOp plain (at_of source) op.now result.0 }
-    ensures entries { hand.new.entries ≡ hand.old.entries ++ calls_of plain op.now result.0 }
+    ensures fits { FitsOp mode (at_of source) op.now result.0 }
+    ensures entries { hand.new.entries ≡ hand.old.entries ++ calls_of mode op.now result.0 }
     ensures stands { at_of result.1 ≡ standing result.0 }
     ensures framed { IfSome result.1 (HasFramed hand.new) }
 
@@ -48,7 +50,8 @@ pub fn do_op<N: Name, M: Mapper, P: Rules>(
             to: _,
         } => {
             leave(hand, source);
-            make_anew(heap, core, hand, size)
+            let (made, block) = make(heap, core, hand, size, mode);
+            (reply_to_make(made), block)
         }
         Op::Free { name: _, from } => (free(heap, core, hand, from, source), None),
         Op::Move {
@@ -60,7 +63,7 @@ pub fn do_op<N: Name, M: Mapper, P: Rules>(
         } => match source {
             Some(old) => move_from(heap, core, hand, old, size),
             None => {
-                let (made, block) = make(heap, core, hand, size);
+                let (made, block) = make(heap, core, hand, size, mode);
                 (
                     Reply::Fresh {
                         skipped: from == Origin::Skip,
@@ -80,30 +83,6 @@ pub(crate) fn leave<N: Name>(hand: &mut Hand<N>, source: Option<Block<N>>)
     if let Some(block) = source {
         hand.leave(block);
     }
-}
-
-/// Makes a block, and tells the reply to the make.
-fn make_anew<N: Name, M: Mapper, P: Rules>(
-    heap: &Heap<N>,
-    core: &mut Core<N, M, P>,
-    hand: &mut Hand<N>,
-    size: u64,
-) -> (Reply, Option<Block<N>>)
-    requires spare { 1 ≤ hand.old.spare }
-    requires cap { size < large → size ≤ N.facts.start.cap }
-    ensures fits { (made : Made) × (result.0 ≡ reply_of made) × FitsMade plain size made }
-    ensures entries { hand.new.entries ≡ hand.old.entries ++ calls_for plain size result.0 }
-    ensures stands { at_of result.1 ≡ standing result.0 }
-    ensures framed { IfSome result.1 (HasFramed hand.new) }
-    ensures fresh { IfSome result.1 (λ block. IsFresh hand.old block.slot) }
-
-    ensures slots { KeepsSlots hand.old.view hand.new.view }
-    ensures frames { KeepsFrames hand.old hand.new }
-    ensures rest { KeepsRest hand.old.view hand.new.view }
-    ensures spare { hand.new.spare + 1 ≡ hand.old.spare }
-{
-    let (made, block) = make(heap, core, hand, size);
-    (reply_to_make(made), block)
 }
 
 /// The reply to a make with this outcome.
@@ -129,7 +108,7 @@ fn free<N: Name, M: Mapper, P: Rules>(
     requires room { 1 ≤ hand.old.spare }
     requires framed { IfSome source (HasFramed hand.old) }
     ensures fits { result ≡ reply_of_free from (at_of source) }
-    ensures entries { hand.new.entries ≡ hand.old.entries ++ calls_for plain 0 result }
+    ensures entries { (mode : Mode) → hand.new.entries ≡ hand.old.entries ++ calls_for mode 0 result }
     ensures stands { standing result ≡ None }
 
     ensures others { (other : BlockToken) → IsApartFrom source other → HasFramed hand.old other → HasFramed hand.new other }
@@ -173,7 +152,7 @@ fn free_framed<N: Name, M: Mapper, P: Rules>(
     }
 }
 
-/// Moves a block to a new one of a size. Where the new one is refused the old one stands.
+/// Gives a block another length, where it stands or by a move. Where that is refused it stands as it was.
 fn move_from<N: Name, M: Mapper, P: Rules>(
     heap: &Heap<N>,
     core: &mut Core<N, M, P>,
@@ -184,35 +163,8 @@ fn move_from<N: Name, M: Mapper, P: Rules>(
     requires room { 2 ≤ hand.old.spare }
     requires cap { size < large → size ≤ N.facts.start.cap }
     requires framed { HasFramed hand.old old }
-    ensures fits { FitsMoved old.at size result.0 }
-    ensures entries { hand.new.entries ≡ hand.old.entries ++ calls_for plain size result.0 }
-    ensures stands { at_of result.1 ≡ standing result.0 }
-    ensures framed { IfSome result.1 (HasFramed hand.new) }
-
-    ensures others { (other : BlockToken) → IsApart other.slot old.slot → HasFramed hand.old other → HasFramed hand.new other }
-    ensures apart { (other : BlockToken) → IsApart other.slot old.slot → HasFramed hand.old other → IsApartFrom result.1 other }
-
-    ensures frames { KeepsFrames hand.old hand.new }
-    ensures rest { KeepsRest hand.old.view hand.new.view }
-    ensures spare { hand.old.spare ≤ hand.new.spare + 2 }
+    ensures { Resizes size hand.old old result.0 result.1 hand.new }
 {
     let at = old.at();
-    match heap.malloc_in(core, hand, size) {
-        Ok(block) => {
-            let reply = Reply::Moved {
-                old: at,
-                at: block.at(),
-            };
-            free_framed(heap, core, hand, old);
-            (reply, Some(block))
-        }
-        Err(AllocRefusal::NoMemory { excuse }) => {
-            let reply = Reply::NoMemory {
-                old: Some(at),
-                excuse,
-            };
-            (reply, Some(old))
-        }
-        Err(AllocRefusal::TooLarge) => (Reply::TooLarge { old: Some(at) }, Some(old)),
-    }
+    resized_outcome(at, realloc_in(heap, core, hand, old, size))
 }

@@ -15,13 +15,19 @@ use ng_mtrace::{Line, Log, Logs};
 use ng_plan::plan;
 use ng_policy::{Ask, Kept, Policy, Rules, Spare, musl_count, musl_keep};
 use ng_space::{Blank, Book, Name, Start};
-use ng_terms::{Entry, Items, Plan, Reply};
+use ng_terms::{Entry, Items, Mode, Plan, Reply};
 use std::alloc::Global;
 use std::marker::Brand;
 use std::process::Abort;
 use std::test::Fail;
 
 const PAGES: u32 = 4096;
+
+// Blocks of the common align, whose bytes aren't set.
+pub(crate) const PLAIN: Mode = Mode {
+    align: None,
+    zero: false,
+};
 
 // A log of these lines.
 pub(crate) fn log_of(alloc: Global, lines: &[Line]) -> Result<Log, Fail>
@@ -71,8 +77,8 @@ fn rooms(alloc: Global, plan: &Plan) -> Result<Vec<u64>, Fail>
 }
 
 // The memory of a heap with a hand for each log and of its core, and a mapper that refuses no call.
-pub(crate) fn parts(alloc: Global, plan: &Plan) -> Result<(Blank, Tables, FirstFit), Fail>
-    ensures { IfOk result (λ made. AreParts plan.now made.0 made.1 made.2) }
+pub(crate) fn parts(alloc: Global, plan: &Plan, mode: Mode) -> Result<(Blank, Tables, FirstFit), Fail>
+    ensures { IfOk result (λ made. AreParts plan.now mode made.0 made.1 made.2) }
 {
     let start = Start {
         pages: u64::from(PAGES),
@@ -80,7 +86,7 @@ pub(crate) fn parts(alloc: Global, plan: &Plan) -> Result<(Blank, Tables, FirstF
         upper: 0x100_0000,
         secret: 0x0123_4567_89ab_cdef,
         refusals: 0,
-        cap: cap_of(plan),
+        cap: cap_of(plan, mode),
     };
     let rooms = rooms(alloc, plan)?;
     let blank = Blank::new(alloc, start, rooms.as_slice())?;
@@ -106,6 +112,7 @@ fn replayed<N: Name, P: Rules + Drop, R: Abort>(
     rt: &R,
     alloc: Global,
     plan: &Plan,
+    mode: Mode,
     blank: Blank,
     tables: Tables,
     mapper: FirstFit,
@@ -115,7 +122,7 @@ fn replayed<N: Name, P: Rules + Drop, R: Abort>(
     requires start { blank.start ≡ N.facts.start }
     requires hands { length blank.rooms ≡ N.facts.hands }
     requires most { N.facts.most ≡ 0 }
-    requires parts { AreParts plan.now blank tables mapper }
+    requires parts { AreParts plan.now mode blank tables mapper }
     requires good { P.good rules }
     requires sound { IsSound plan.now }
 {
@@ -124,12 +131,30 @@ fn replayed<N: Name, P: Rules + Drop, R: Abort>(
             let Ok(room) = Room::for_plan(alloc, plan) else {
                 panic!(rt; "no memory for the replies")
             };
-            let replies = serial(&heap, &mut core, &mut hands, plan, room);
+            let replies = serial(&heap, &mut core, &mut hands, plan, mode, room);
             let (_image, books, _mapper) = heap.close(core, hands);
             (replies, books)
         }
         Err(_) => panic!(rt; "no memory for the heap"),
     }
+}
+
+// The replies to the ops of logs, and the books of the logs.
+fn done<R: Abort>(
+    rt: &R,
+    alloc: Global,
+    logs: Vec<Log>,
+    mode: Mode,
+) -> Result<(Vec<Items<Reply>>, Vec<Book>), Fail>
+    requires few { length logs.items ≤ 16 }
+    requires short { sum_by length (lines_of logs.items) ≤ 1000000 }
+{
+    let plan = plan_of(alloc, logs)?;
+    let (blank, tables, mapper) = parts(alloc, &plan, mode)?;
+    let rules = Policy::new(count, keep);
+    Ok(replayed::<Brand, _, _>(
+        rt, alloc, &plan, mode, blank, tables, mapper, rules,
+    ))
 }
 
 #[test]
@@ -151,10 +176,8 @@ fn a_log_moves_a_block(rt: HostRuntime) -> Result<(), Fail> {
         },
         Line::End { name: 0x10 },
     ];
-    let plan = plan_of(alloc, vec![in alloc; log_of(alloc, &lines)?]?)?;
-    let (blank, tables, mapper) = parts(alloc, &plan)?;
-    let rules = Policy::new(count, keep);
-    let (replies, books) = replayed::<Brand, _, _>(&rt, alloc, &plan, blank, tables, mapper, rules);
+    let logs = vec![in alloc; log_of(alloc, &lines)?]?;
+    let (replies, books) = done(&rt, alloc, logs, PLAIN)?;
     let wanted = [
         Reply::Given { at: 0x2040 },
         Reply::Given { at: 0x2060 },
@@ -179,7 +202,7 @@ fn a_log_moves_a_block(rt: HostRuntime) -> Result<(), Fail> {
 }
 
 #[test]
-fn a_moved_block_goes_to_another_log(rt: HostRuntime) -> Result<(), Fail> {
+fn a_resized_block_goes_to_another_log(rt: HostRuntime) -> Result<(), Fail> {
     let alloc = rt.alloc();
     let first = [
         Line::Make {
@@ -200,32 +223,73 @@ fn a_moved_block_goes_to_another_log(rt: HostRuntime) -> Result<(), Fail> {
         },
     ];
     let logs = vec![in alloc; log_of(alloc, &first)?, log_of(alloc, &second)?]?;
-    let plan = plan_of(alloc, logs)?;
-    let (blank, tables, mapper) = parts(alloc, &plan)?;
-    let rules = Policy::new(count, keep);
-    let (replies, books) = replayed::<Brand, _, _>(&rt, alloc, &plan, blank, tables, mapper, rules);
-    let moved = Reply::Moved {
+    let (replies, books) = done(&rt, alloc, logs, PLAIN)?;
+    let stayed = Reply::Moved {
         old: 0x2040,
-        at: 0x2060,
+        at: 0x2040,
     };
-    let sender = [
-        give(0x14, 0x2040),
-        give(0x14, 0x2060),
-        Entry::Take { at: 0x2040 },
-    ];
-    let taker = [Entry::Take { at: 0x2060 }, give(0x14, 0x2040)];
+    let resized = Entry::Resize {
+        at: 0x2040,
+        n: 0x14,
+    };
+    let taker = [Entry::Take { at: 0x2040 }, give(0x14, 0x2040)];
     assert_eq!(rt; replies.len(), 2);
     assert_eq!(rt; books.len(), 2);
     assert_eq!(rt;
         replies[0].as_slice(),
-        [Reply::Given { at: 0x2040 }, moved].as_slice()
+        [Reply::Given { at: 0x2040 }, stayed].as_slice()
     );
     assert_eq!(rt;
         replies[1].as_slice(),
-        [Reply::Freed { at: 0x2060 }, Reply::Given { at: 0x2040 }].as_slice()
+        [Reply::Freed { at: 0x2040 }, Reply::Given { at: 0x2040 }].as_slice()
     );
-    assert_eq!(rt; books[0].entries(), sender.as_slice());
+    assert_eq!(rt; books[0].entries(), [give(0x14, 0x2040), resized].as_slice());
     assert_eq!(rt; books[1].entries(), taker.as_slice());
+    Ok(())
+}
+
+#[test]
+fn a_make_is_zeroed_by_the_mode(rt: HostRuntime) -> Result<(), Fail> {
+    let alloc = rt.alloc();
+    let lines = [Line::Make {
+        name: 0x10,
+        size: 0x14,
+    }];
+    let mode = Mode {
+        align: None,
+        zero: true,
+    };
+    let logs = vec![in alloc; log_of(alloc, &lines)?]?;
+    let (replies, books) = done(&rt, alloc, logs, mode)?;
+    assert_eq!(rt; replies.len(), 1);
+    assert_eq!(rt; books.len(), 1);
+    assert_eq!(rt; replies[0].as_slice(), [Reply::Given { at: 0x2040 }].as_slice());
+    assert_eq!(rt; books[0].entries(), [give(0x14, 0x2040)].as_slice());
+    Ok(())
+}
+
+#[test]
+fn a_make_is_aligned_by_the_mode(rt: HostRuntime) -> Result<(), Fail> {
+    let alloc = rt.alloc();
+    let lines = [Line::Make {
+        name: 0x10,
+        size: 0x64,
+    }];
+    let mode = Mode {
+        align: Some(0x20_0000),
+        zero: false,
+    };
+    let logs = vec![in alloc; log_of(alloc, &lines)?]?;
+    let (replies, books) = done(&rt, alloc, logs, mode)?;
+    let given = Entry::Give {
+        n: 0x64,
+        align: 0x20_0000,
+        at: 0x20_0000,
+    };
+    assert_eq!(rt; replies.len(), 1);
+    assert_eq!(rt; books.len(), 1);
+    assert_eq!(rt; replies[0].as_slice(), [Reply::Given { at: 0x20_0000 }].as_slice());
+    assert_eq!(rt; books[0].entries(), [given].as_slice());
     Ok(())
 }
 

@@ -3,7 +3,7 @@ ghost use Rattle.ng_plan.specs.Sound.{IsSound};
 ghost use Rattle.ng_post.specs.Opened.{AreOpened};
 ghost use Rattle.ng_replay.specs.Books.{AreAllFramed, AreBooks, rooms_for};
 ghost use Rattle.ng_replay.specs.Crews.{AreEnded, AreReady, HasRoomFor, IsCrewFor, doors_of, hands_of};
-ghost use Rattle.ng_replay.specs.Serving.{IsCapOf, plain};
+ghost use Rattle.ng_replay.specs.Serving.{IsCapOf};
 ghost use Rattle.ng_space.specs.Callers.{fresh_callers};
 ghost use Rattle.ng_space.specs.Closings.{AreAll, IsEven};
 ghost use Rattle.ng_terms.specs.Calls.{Fits};
@@ -17,11 +17,11 @@ use ng_mapper::Mapper;
 use ng_policy::Rules;
 use ng_post::{Boxes, Door, finish};
 use ng_space::{Hand, Name};
-use ng_terms::{Items, Plan, Reply};
+use ng_terms::{Items, Mode, Plan, Reply};
 use std::sync::Wait;
 use std::thread::Threads;
 
-/// Does the ops of each log of a plan by a worker of its own, beside each other. A worker whose thread can't be made is run by
+/// Does the ops of each log of a plan by a worker of its own, beside each other, and makes blocks by the mode. A worker whose thread can't be made is run by
 /// the caller. A block that is still live at the end stays in the hand of its log. It takes no memory.
 pub fn threads<
     R: Threads + Wait + Sync,
@@ -35,23 +35,24 @@ pub fn threads<
     boxes: Boxes<N>,
     crew: Crew<N>,
     plan: &Plan,
+    mode: Mode,
     gate: &G,
 ) -> (Vec<Hand<N>>, Vec<Items<Reply>>)
     requires sound { IsSound plan.now }
     requires few { length plan.now.logs ≤ 16 }
-    requires cap { IsCapOf N.facts.start.cap plan.now }
+    requires cap { IsCapOf N.facts.start.cap plan.now mode }
     requires all { length plan.now.logs ≡ N.facts.hands }
     requires crew { IsCrewFor crew plan.now }
     requires hands { hands_of crew ≡ fresh_callers 1 (rooms_for plan.now) }
     requires boxes { AreOpened plan.now boxes (doors_of crew) }
 
-    ensures fits { Fits plan.now plain result.1.items }
-    ensures books { AreBooks plan.now result.1.items result.0.items }
+    ensures fits { Fits plan.now mode result.1.items }
+    ensures books { AreBooks plan.now mode result.1.items result.0.items }
     ensures framed { AreAllFramed result.0.items }
     ensures all { AreAll N.facts.hands result.0.items }
     ensures even { IsEven result.0.items }
 {
-    let (hands, doors, replies) = do_all(rt, heap, &boxes, crew, plan, gate);
+    let (hands, doors, replies) = do_all(rt, heap, &boxes, crew, plan, mode, gate);
     finish(boxes, doors);
     (hands, replies)
 }
@@ -69,14 +70,23 @@ fn do_all<
     boxes: &Boxes<N>,
     mut crew: Crew<N>,
     plan: &Plan,
+    mode: Mode,
     gate: &G,
 ) -> (Vec<Hand<N>>, Vec<Door<N>>, Vec<Items<Reply>>)
     requires few { length plan.now.logs ≤ 16 }
-    requires ready { AreReady boxes.now N.facts.start.cap plan.now crew.workers.items }
+    requires ready { AreReady mode boxes.now N.facts.start.cap plan.now crew.workers.items }
     requires room { HasRoomFor crew (length plan.now.logs) }
-    ensures { AreEnded boxes.now plan.now result.0.items result.1.items result.2.items }
+    ensures { AreEnded mode boxes.now plan.now result.0.items result.1.items result.2.items }
 {
-    work_all(rt, heap, boxes, crew.workers.as_mut_slice(), plan, gate);
+    work_all(
+        rt,
+        heap,
+        boxes,
+        crew.workers.as_mut_slice(),
+        plan,
+        mode,
+        gate,
+    );
     end_workers(crew)
 }
 

@@ -3,7 +3,7 @@ ghost use Rattle.std.specs.Prelude.{◌≡◌, ◌≤◌, length};
 ghost use Rattle.ng_plan.specs.Sound.{IsSound};
 ghost use Rattle.ng_replay.specs.Tests.{AreParts};
 
-use crate::tests::{count, keep, log_of, parts, plan_of};
+use crate::tests::{PLAIN, count, keep, log_of, parts, plan_of};
 use crate::{Crew, Gate, Open, threads};
 use ng_group::Tables;
 use ng_heap::{Heap, SharedHeap};
@@ -11,7 +11,7 @@ use ng_mapper::FirstFit;
 use ng_mtrace::Line;
 use ng_policy::{Kept, Policy, Rules};
 use ng_space::{Blank, Book, Name};
-use ng_terms::{Items, Plan, Reply};
+use ng_terms::{Items, Mode, Plan, Reply};
 use std::alloc::Global;
 use std::marker::Brand;
 use std::process::Abort;
@@ -30,6 +30,7 @@ fn replayed<
     rt: &R,
     alloc: Global,
     plan: &Plan,
+    mode: Mode,
     blank: Blank,
     tables: Tables,
     mapper: FirstFit,
@@ -40,7 +41,7 @@ fn replayed<
     requires start { blank.start ≡ N.facts.start }
     requires hands { length blank.rooms ≡ N.facts.hands }
     requires most { N.facts.most ≡ 0 }
-    requires parts { AreParts plan.now blank tables mapper }
+    requires parts { AreParts plan.now mode blank tables mapper }
     requires few { length plan.now.logs ≤ 16 }
     requires good { P.good rules }
     requires sound { IsSound plan.now }
@@ -56,7 +57,7 @@ fn replayed<
         panic!(rt; "no memory for the crew")
     };
     let shared = SharedHeap::new(heap, core);
-    let (hands, replies) = threads(rt, &shared, boxes, crew, plan, gate);
+    let (hands, replies) = threads(rt, &shared, boxes, crew, plan, mode, gate);
     let (heap, core) = shared.parts();
     let (_image, books, _mapper) = heap.close(core, hands);
     (replies, books)
@@ -85,10 +86,10 @@ fn a_moved_block_goes_to_another_thread(rt: HostRuntime) -> Result<(), Fail> {
     ];
     let logs = vec![in alloc; log_of(alloc, &first)?, log_of(alloc, &second)?]?;
     let plan = plan_of(alloc, logs)?;
-    let (blank, tables, mapper) = parts(alloc, &plan)?;
+    let (blank, tables, mapper) = parts(alloc, &plan, PLAIN)?;
     let rules = Policy::new(count, keep);
     let (replies, books) = replayed::<Brand, _, _, _>(
-        &rt, alloc, &plan, blank, tables, mapper, rules, &Open,
+        &rt, alloc, &plan, PLAIN, blank, tables, mapper, rules, &Open,
     );
     assert_eq!(rt; replies.len(), 2);
     assert_eq!(rt; given_and_freed(replies[0].as_slice()), (1, 0));
@@ -187,14 +188,14 @@ fn two_logs_go_beside_each_other(rt: HostRuntime) -> Result<(), Fail> {
     ];
     let logs = vec![in alloc; log_of(alloc, &first)?, log_of(alloc, &second)?]?;
     let plan = plan_of(alloc, logs)?;
-    let (blank, tables, mapper) = parts(alloc, &plan)?;
+    let (blank, tables, mapper) = parts(alloc, &plan, PLAIN)?;
     let rules = Policy::new(count, keep);
     let gate = Held {
         answered: AtomicU32::new(0),
         late: AtomicU32::new(0),
     };
     let (replies, _books) = replayed::<Brand, _, _, _>(
-        &rt, alloc, &plan, blank, tables, mapper, rules, &gate,
+        &rt, alloc, &plan, PLAIN, blank, tables, mapper, rules, &gate,
     );
     assert_eq!(rt; gate.late.load(Ordering::SeqCst), 0);
     assert_eq!(rt; replies.len(), 2);

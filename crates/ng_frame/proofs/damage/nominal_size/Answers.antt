@@ -1,18 +1,18 @@
 use Rattle.std.proofs.Common.{◌≡◌, ℕ, Bool, true, false, cond, ◌&&◌, ◌+◌, ◌-◌, ◌*◌, ◌/◌, ◌%◌, ◌<◌, ◌≤◌, ap, sym, ◌∙◌, subst, arith}
-use Rattle.std.specs.Prelude.{nat_lt, Some, Result, Ok, Err}
+use Rattle.std.specs.Prelude.{nat_lt, Result, Ok, Err}
 use Rattle.ng_header.specs.Reading.{nominal_in, reserved_in}
 use Rattle.ng_header.specs.declared.reading.NominalFault.{NominalFault}
 use Rattle.ng_header.specs.declared.reading.NominalFault.TheVariants.{BadReserved, Overrun}
 use Rattle.ng_view.specs.Lists.{find}
 use Rattle.ng_view.specs.Blocks.{Knows}
-use Rattle.ng_view.specs.Steps.{learnt, loaded}
+use Rattle.ng_view.specs.Steps.{learnt}
 use Rattle.ng_view.specs.declared.view.Held.{Held}
 use Rattle.ng_view.specs.declared.view.Place.{Place}
 use Rattle.ng_space.specs.Tokens.{LiesAt}
 use Rattle.ng_view.specs.declared.view.View.{View}
 use Rattle.ng_space.proofs.Holding.{find-loaded}
 use Rattle.ng_space.specs.Blocks.{OfSlot}
-use Rattle.ng_frame.specs.Inspects.{field_in, fifth_in, gap_of, looked, number_in}
+use Rattle.ng_frame.specs.Inspects.{field_in, fifth_in, gap_of, number_in}
 use Rattle.ng_frame.specs.Judging.{AreSure, IsJudged, IsKnownVerdict, IsSureByte, verdict_by}
 use Rattle.ng_frame.proofs.Judged.{judged_by, owns_mark, some_is, sure_keeps, sure_new}
 use Rattle.ng_header.specs.Bytes.{byte_of}

@@ -24,8 +24,7 @@ returns-clause-near g c =
       whole = whole g.N.Name.facts.start c.args.hand.now slot c.requires.slot c.load.ensures.placed;
       within = omega (arith, o, room, fits);
       small = omega (arith, low, is);
-      narrow = narrow g.N.Name.facts.start c.args.hand.now slot _ c.load.result c.cycle.result c.requires.slot c.load.ensures.told
-          (omega (arith, low, is)) (omega (arith, o, room, fits));
+      narrow = narrow g.N.Name.facts.start c.args.hand.now slot _ c.load.result c.requires.slot c.load.ensures.told;
     }
 
 pub returns-clause-leaves : goal.returns-clause-leaves

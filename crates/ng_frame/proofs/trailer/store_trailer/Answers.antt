@@ -1,6 +1,6 @@
 use Rattle.std.proofs.Common.{◌≢◌, ℕ, ◌-◌, ◌*◌, ◌/◌, ◌<◌, arith}
 use Rattle.ng_space.proofs.LeavingFrames.{all_leaves, leaves_itself, leaves_stored, leaves_then}
-use Rattle.ng_frame.proofs.Frames.{knows_still, long_trailer, short_trailer, stored_byte, stored_knows}
+use Rattle.ng_frame.proofs.Frames.{knows_still, lies, long_trailer, short_trailer, stored_byte, stored_knows}
 use Rattle.ng_space.proofs.Leaving.{stays_stored, stays_then}
 use Rattle.ng_frame.proofs.Trailers.{before_first, before_last, cells_apart, fifth_apart}
 use Rattle.ng_frame.proofs.trailer.store_trailer.Goals as goal
@@ -13,9 +13,10 @@ returns-then-reserved-ge5-clause-trailer g c =
     let one = c.clear_byte.new.hand in let two = c.store_own.new.hand in let three = c.clear_byte-then-reserved-ge5.new.hand in
     let last = c.clear_byte-then-reserved-ge5.ensures in
     let has = c.clear_byte.ensures.slot in
-    long_trailer three slot r e end c.if-reserved-ge5.true last.slot
-    (last.zeros (e - r) (stored_byte one two slot has (e - 4) r c.store_own.ensures.view (e - r) (cells_apart slot e r end c.requires.whole c.if-reserved-ge5.true c.requires.within) c.clear_byte.ensures.zero))
-    (knows_still two three slot (λ a. a ≢ 4 * ((e - 5) / 4)) (e - 4) r c.store_own.ensures.slot last.own (fifth_apart slot e end c.requires.whole) (stored_knows one two slot has (e - 4) r c.store_own.ensures.view))
+    let two_has = c.store_own.ensures.slot in
+    long_trailer three slot r e end c.if-reserved-ge5.true (lies three slot last.slot)
+    (last.zeros (e - r) (stored_byte one two slot has.held has.found (e - 4) r c.store_own.ensures.view (e - r) 0 (cells_apart slot e r end c.requires.whole c.if-reserved-ge5.true c.requires.within) c.clear_byte.ensures.zero))
+    (knows_still two three slot two_has.held (λ a. a ≢ 4 * ((e - 5) / 4)) (e - 4) r two_has.found last.own (fifth_apart slot e end c.requires.whole) (stored_knows one two slot has.held has.found (e - 4) r c.store_own.ensures.view))
     last.zero
 
 pub returns-then-reserved-ge5-clause-own : goal.returns-then-reserved-ge5-clause-own
@@ -29,7 +30,7 @@ returns-then-reserved-ge5-clause-own g c =
 
 pub returns-else-reserved-ge5-clause-trailer : goal.returns-else-reserved-ge5-clause-trailer
 returns-else-reserved-ge5-clause-trailer g c =
-    short_trailer c.clear_byte.new.hand c.args.slot.now c.args.reserved c.end-end.result c.end-end.ensures.end (let f = c.if-reserved-eq0.false in omega (arith, f)) (let f = c.if-reserved-ge5.false in omega (arith, f)) c.clear_byte.ensures.slot c.clear_byte.ensures.zero
+    short_trailer c.clear_byte.new.hand c.args.slot.now c.args.reserved c.end-end.result c.end-end.ensures.end (let f = c.if-reserved-eq0.false in omega (arith, f)) (let f = c.if-reserved-ge5.false in omega (arith, f)) (lies c.clear_byte.new.hand c.args.slot.now c.clear_byte.ensures.slot) c.clear_byte.ensures.zero
 
 pub returns-else-reserved-ge5-clause-own : goal.returns-else-reserved-ge5-clause-own
 returns-else-reserved-ge5-clause-own g c =

@@ -7,7 +7,7 @@ use Rattle.ng_replay.proofs.threading.threads.Goals as goal
 pub do_all-hands-requires-clause-ready : goal.do_all-hands-requires-clause-ready
 do_all-hands-requires-clause-ready g c =
     λ κs outlives.
-    AreReady-opened c.args.boxes c.args.plan.now g.N.Name.facts.start.cap c.args.crew c.requires.sound c.requires.cap c.requires.crew c.requires.hands c.requires.boxes
+    AreReady-opened c.args.boxes c.args.plan.now c.args.mode g.N.Name.facts.start.cap c.args.crew c.requires.sound c.requires.cap c.requires.crew c.requires.hands c.requires.boxes
 
 pub finish-requires-clause-doors : goal.finish-requires-clause-doors
 finish-requires-clause-doors g c =
@@ -30,7 +30,7 @@ returns-clause-framed g c = AreAllFramed-ended c.requires.sound c.requires.boxes
 
 pub returns-clause-all : goal.returns-clause-all
 returns-clause-all g c =
-    AreAll-books _ c.args.plan.now _ _ c.requires.all (AreBooks-ended c.requires.sound c.requires.boxes.receivers c.do_all-hands.ensures)
+    AreAll-books _ c.args.plan.now c.args.mode _ _ c.requires.all (AreBooks-ended c.requires.sound c.requires.boxes.receivers c.do_all-hands.ensures)
 
 pub returns-clause-even : goal.returns-clause-even
 returns-clause-even g c = IsEven-ended c.requires.sound c.requires.boxes.receivers c.do_all-hands.ensures c.finish.ensures

@@ -6,6 +6,6 @@ abbrev pub invariant-loop-turn : goal.invariant-loop-turn
 invariant-loop-turn g l = record {
   room : HaveRoom l.plan.logs l.rows.items;
   room_for_blocks : HaveRoom l.plan.logs l.blocks.items;
-  served : AreServed l.plan l.turn (replies_in l.rows.items) (held_in (blocks_in l.blocks.items)) (handed_in l.parcels.items);
-  hands : AreInHand l.plan (replies_in l.rows.items) (blocks_in l.blocks.items) l.parcels.items l.hands.items;
+  served : AreServed l.plan l.mode l.turn (replies_in l.rows.items) (held_in (blocks_in l.blocks.items)) (handed_in l.parcels.items);
+  hands : AreInHand l.plan l.mode (replies_in l.rows.items) (blocks_in l.blocks.items) l.parcels.items l.hands.items;
 }

@@ -3,7 +3,7 @@ use Rattle.std.specs.Prelude.{count_by}
 use Rattle.ng_post.specs.Ends.{is_sent}
 use Rattle.ng_terms.specs.Calls.{FitsOp, handed_as, origin_of, standing}
 use Rattle.ng_replay.specs.Serial.{places_of, row_without}
-use Rattle.ng_replay.specs.Serving.{at_of, plain}
+use Rattle.ng_replay.specs.Serving.{at_of}
 use Rattle.ng_replay.proofs.MoveLemmas.{KeepsFrames-then}
 use Rattle.ng_replay.proofs.OpLemmas.{AreHeld-after, places_of-after, written_back}
 use Rattle.ng_replay.specs.Works.{posted_for, source_in}
@@ -16,7 +16,7 @@ returns-clause-serves g c =
     let stands : at_of c.do_op-reply.result.1 ≡ standing c.do_op-reply.result.0 = c.do_op-reply.ensures.stands in
     record {
       taken = taken.taken;
-      fits = subst (λ s. FitsOp plain s op c.do_op-reply.result.0) (taken.source_is ∙ ap (λ row. source_in (places_of row) taken.taken (origin_of op)) c.as_mut_slice.ensures.value) c.do_op-reply.ensures.fits;
+      fits = subst (λ s. FitsOp c.args.mode s op c.do_op-reply.result.0) (taken.source_is ∙ ap (λ row. source_in (places_of row) taken.taken (origin_of op)) c.as_mut_slice.ensures.value) c.do_op-reply.ensures.fits;
       got = ap (λ got. got.items) c.hand_off-block.ensures.got ∙ taken.got;
       sent = c.hand_off-block.ensures.posts ∙ ap (λ at. c.take_source-source.new.door.sent.items ++ posted_for (handed_as op) at) stands ∙ ap (λ sent. sent.items ++ posted_for (handed_as op) (standing c.do_op-reply.result.0)) c.take_source-source.ensures.sent;
       counted = c.hand_off-block.ensures.taken ∙ c.do_op-reply.ensures.rest.taken ∙ taken.counted;

@@ -1,7 +1,7 @@
 use Rattle.std.proofs.Common.{◌≡◌, ◌≢◌, ◌⊎◌, ℕ, ◌+◌, ◌*◌, ◌<◌, ◌≤◌, ◌∙◌, refl, sym, ap, subst, ⊎_elim, inl, inr, arith}
 use Rattle.ng_mask.specs.declared.outcome.Pop.TheVariants as pop
 use Rattle.ng_terms.specs.declared.entry.Entry.TheVariants.{Give}
-use Rattle.ng_frame.specs.Puts.{Cycles}
+use Rattle.ng_frame.specs.Puts.{Cycles, IsNear}
 use Rattle.ng_space.specs.Blocks.{BlockToken}
 use Rattle.ng_space.specs.Callers.{Caller}
 use Rattle.ng_space.specs.Leaving.{Leaves}
@@ -9,7 +9,7 @@ use Rattle.ng_space.specs.Tokens.{Token}
 use Rattle.ng_view.specs.Steps.{loaded}
 use Rattle.ng_view.specs.declared.view.View.{View}
 use Rattle.ng_heap.specs.Trying.{LoadsActive, OnlyReads}
-use Rattle.ng_heap.proofs.PutLemmas.{made_now, put_by, put_leaves, still_serves}
+use Rattle.ng_heap.proofs.PutLemmas.{asked_common, made_now, put_by, put_leaves, serves_asked, still_serves}
 use Rattle.ng_heap.proofs.QuickLemmas.{WinsActive, book_came, class_small, for_request, gains_came, gives_active, has_came, is_fresh, reads_missed, serves_came}
 use Rattle.ng_heap.proofs.ReadLemmas.{book_then, entered_since, learns_leaves, reads_none, reads_one}
 use Rattle.ng_heap.proofs.StayLemmas.{fresh_slots}
@@ -135,8 +135,12 @@ next_offset-offset-requires-clause-fits g c = (for_request _ _ _ _ _ _ _ _ _ (wi
 pub put-requires-clause-serves : goal.put-requires-clause-serves
 put-requires-clause-serves g c =
     let offset = c.next_offset-offset in
-    still_serves c.counter-counter.new.hand offset.new.hand c.in-Won.slot c.args.n (has_came _ _ _ _ _ _ _ _ _ (wins g c.before.before.before.before.before)) offset.ensures.leaves
-    (serves_came _ _ _ _ _ _ _ _ _ (wins g c.before.before.before.before.before))
+    serves_asked offset.new.hand c.in-Won.slot c.args.n 16 c.args.n (sym (asked_common c.args.n))
+    (still_serves c.counter-counter.new.hand offset.new.hand c.in-Won.slot c.args.n (has_came _ _ _ _ _ _ _ _ _ (wins g c.before.before.before.before.before))
+    offset.ensures.leaves (serves_came _ _ _ _ _ _ _ _ _ (wins g c.before.before.before.before.before)))
+
+pub put-requires-clause-near : goal.put-requires-clause-near
+put-requires-clause-near g c = subst (λ k. IsNear c.in-Won.slot k c.next_offset-offset.result) (sym (asked_common c.args.n)) c.next_offset-offset.ensures.near
 
 pub returns-in-Won-clause-cause : goal.returns-in-Won-clause-cause
 returns-in-Won-clause-cause g c =
@@ -146,8 +150,10 @@ returns-in-Won-clause-cause g c =
     let offset = c.next_offset-offset in
     let put = c.put.ensures in
     let cycles = subst (λ k. Cycles came slot c.args.n k offset.result offset.new.hand.view) c.from.ensures offset.ensures.cycles in
-    let puts = put_by came offset.new.hand.view c.put.new.hand slot c.args.n counter offset.result c.put.result put.block
-    cycles offset.ensures.near put.leaves put.framed in
+    let asked = sym (asked_common c.args.n) in
+    let puts = put_by came offset.new.hand.view c.put.new.hand slot c.args.n 16 counter offset.result c.put.result put.block
+    (subst (λ k. Cycles came slot k counter offset.result offset.new.hand.view) asked cycles)
+    (subst (λ k. IsNear slot k offset.result) asked offset.ensures.near) put.leaves put.framed in
     gives_active _ _ _ _ _ _ _ _ _ (wins g c.before.before.before.before.before.before) offset.new.hand c.put.new.hand offset.result c.put.result
     put.block offset.ensures.leaves put.still puts
 
@@ -156,7 +162,7 @@ returns-in-Won-clause-made g c =
     let offset = c.next_offset-offset in
     let put = c.put.ensures in
     let won = wins g c.before.before.before.before.before.before in
-    made_now c.args.hand.now c.counter-counter.new.hand offset.new.hand c.put.new.hand c.in-Won.slot c.args.n offset.result c.put.result put.block
+    made_now c.args.hand.now c.counter-counter.new.hand offset.new.hand c.put.new.hand c.in-Won.slot c.args.n 16 offset.result c.put.result put.block
     (is_fresh _ _ _ _ _ _ _ _ _ won) (gains_came _ _ _ _ _ _ _ _ _ won) (book_came _ _ _ _ _ _ _ _ _ won).number
     offset.ensures.book.number offset.ensures.leaves put.apart put.framed
 

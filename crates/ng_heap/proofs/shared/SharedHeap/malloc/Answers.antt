@@ -20,7 +20,7 @@ reads g c = passed_reads c.args.n c.args.hand.now c.malloc_unlocked.result c.mal
 
 pub returns-in-Large-clause-made : goal.returns-in-Large-clause-made
 returns-in-Large-clause-made g c =
-    IfOk-weaker c.malloc_in.result _ _ (λ block made. made_after c.args.hand.now c.malloc_unlocked.new.hand (reads g c.before.before) c.args.n block c.malloc_in.new.hand made) c.malloc_in.ensures.made
+    IfOk-weaker c.malloc_in.result _ _ (λ block made. made_after c.args.hand.now c.malloc_unlocked.new.hand (reads g c.before.before) c.args.n 16 block c.malloc_in.new.hand made) c.malloc_in.ensures.made
 
 pub returns-in-Large-clause-given : goal.returns-in-Large-clause-given
 returns-in-Large-clause-given g c =
@@ -30,7 +30,7 @@ returns-in-Large-clause-given g c =
 
 pub returns-in-Large-clause-refuses : goal.returns-in-Large-clause-refuses
 returns-in-Large-clause-refuses g c =
-    IfErr-weaker c.malloc_in.result _ _ (λ why is. refuses_after c.args.hand.now c.malloc_unlocked.new.hand (reads g c.before.before) c.args.n why c.malloc_in.new.hand.view is) c.malloc_in.ensures.refuses
+    IfErr-weaker c.malloc_in.result _ _ (λ why is. refuses_after c.args.hand.now c.malloc_unlocked.new.hand (reads g c.before.before) c.args.n 16 why c.malloc_in.new.hand.view is) c.malloc_in.ensures.refuses
 
 pub returns-in-Large-clause-entered : goal.returns-in-Large-clause-entered
 returns-in-Large-clause-entered g c = entered_after c.args.hand.now c.malloc_unlocked.new.hand (reads g c.before.before) _ c.malloc_in.new.hand c.malloc_in.ensures.entered

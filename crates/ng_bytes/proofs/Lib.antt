@@ -1,0 +1,5 @@
+pub mod Around
+pub mod Changes
+pub mod Bytes
+pub mod Sure
+pub mod Known
