@@ -10,7 +10,7 @@ use Rattle.ng_mapper.specs.Mapping.{Span}
 use Rattle.ng_mapper.specs.Runs as mapper
 use Rattle.ng_mapper.specs.declared.refusals.Refusals.{Refusals}
 use Rattle.ng_replay.specs.Books.{AreAllFramed, AreBooks, hand_at}
-use Rattle.ng_replay.specs.Serving.{IsCapOf, counts_of, plain}
+use Rattle.ng_replay.specs.Serving.{IsCapOf, counts_of}
 use Rattle.ng_replay.proofs.ClosingLemmas.{account_closed, books_of_hands}
 use Rattle.ng_space.specs.Blanks.{BlankHeap}
 use Rattle.ng_space.specs.Callers.{Caller}
@@ -22,6 +22,7 @@ use Rattle.ng_terms.specs.Calls.{Fits}
 use Rattle.ng_terms.specs.Reports.{report}
 use Rattle.ng_terms.specs.declared.entry.Entry.{Entry}
 use Rattle.ng_terms.specs.declared.plan.Plan.{Plan}
+use Rattle.ng_terms.specs.declared.reply.Mode.{Mode}
 use Rattle.ng_terms.specs.declared.reply.Reply.{Reply}
 use Rattle.ng_view.specs.Lists.{Among}
 use Rattle.ng_view.specs.declared.view.Book.{Book}
@@ -31,7 +32,7 @@ use Rattle.mng.specs.Inputs.{PlansInput}
 use Rattle.mng.specs.Opened.{IsFreshOver, IsNamed, counts_at, span_at}
 use Rattle.mng.specs.Statuses.{IsLate}
 use Rattle.mng.specs.Tool.{Ends, Runs, WritesBeginning, WritesReport}
-use Rattle.mng.specs.Words.{ShowsCalls}
+use Rattle.mng.specs.Words.{AsksReport}
 use Rattle.mng.specs.declared.closed.Closed.{Closed}
 use Rattle.mng.specs.declared.status.Status.{Status}
 use Rattle.mng.specs.declared.status.Status.TheVariants.{Done, WriteFault}
@@ -64,10 +65,10 @@ booked_view (hand ∷ hands) u own (inl same) =
 booked_view (hand ∷ hands) u own (inr there) = booked_view hands u (All-tail HasOwnBook hand hands own) there
 
 -- ---- the most refused pages are bounded as an account wants it
-most_of_cap : (plan : Plan) (cap before now : ℕ) → IsCapOf cap plan → now ≤ max before (max 512 (pages_for cap)) → IsMostBound plan plain before now
-most_of_cap plan cap before now is most = ⊎_elim
+most_of_cap : (plan : Plan) (mode : Mode) (cap before now : ℕ) → IsCapOf cap plan mode → now ≤ max before (max 512 (pages_for cap)) → IsMostBound plan mode before now
+most_of_cap plan mode cap before now is most = ⊎_elim
     (λ (none : cap ≡ 0). inl (omega (arith, none)))
-    (λ (asked : IsAsked plan plain cap). ⊎_elim
+    (λ (asked : IsAsked plan mode cap). ⊎_elim
     (λ (more : max before 512 < now). inr (cap, asked, omega arith))
     (λ (few : now ≤ max before 512). inl few)
     (cases_lt (max before 512) now))
@@ -113,40 +114,40 @@ module _ (facts : Facts) (lock : View) (hands : List Caller) (span : Span) (live
   }
 
 -- ---- a run whose heap was closed
-module _ {X : Type 0} (span : X → Span) (runs : X → List mapper.Run) (refused : X → Refusals) (plan : Plan) (calls_shown : Bool) (facts : Facts)
+module _ {X : Type 0} (span : X → Span) (runs : X → List mapper.Run) (refused : X → Refusals) (plan : Plan) (mode : Mode) (calls_shown : Bool) (facts : Facts)
     (lock : View) (hands : List Caller) (ended back : X) (heap : Closed) where
   -- the account of the replies and books, and the image over its history
   abbrev IsTold : List (List Reply) → List (List Entry) → Type 0
-  IsTold replies books = (account : Account plan plain replies books facts.start.pages (counts_at facts) (counts_of (refused back)))
+  IsTold replies books = (account : Account plan mode replies books facts.start.pages (counts_at facts) (counts_of (refused back)))
       × IsImageOf program_secret (span_at facts.start) heap.image.words (runs back) account.history
 
-  pub runs_closed : (replies : List (List Reply)) → facts.start.secret ≡ program_secret → IsCapOf facts.start.cap plan
+  pub runs_closed : (replies : List (List Reply)) → facts.start.secret ≡ program_secret → IsCapOf facts.start.cap plan mode
       → back ≡ ended → heap.image.pages ≡ facts.start.pages
-      → Fits plan plain replies → AreBooks plan replies hands → AreAllFramed hands
+      → Fits plan mode replies → AreBooks plan mode replies hands → AreAllFramed hands
       → IsClosed facts.start heap.image.words lock hands → IsHandedBack facts lock (span ended) (runs ended) (refused ended)
       → heap.books ≡ books_of hands → heap.replies ≡ replies
       → (closed_before closed : List Closed) → closed_before ≡ [] → closed ≡ closed_before ++ heap ∷ []
-      → (text_before text : List ℕ) (shown : List (List Reply)) (pages : ℕ) → text_before ≡ [] → text ≡ text_before ++ report plan plain calls_shown shown pages
+      → (text_before text : List ℕ) (shown : List (List Reply)) (pages : ℕ) → text_before ≡ [] → text ≡ text_before ++ report plan mode calls_shown shown pages
       → shown ≡ replies → pages ≡ sum_by (λ run. run.1) (runs back)
-      → Runs plan calls_shown (span_at facts.start) (counts_at facts) (counts_of (refused back)) (runs back) closed text
+      → Runs plan mode calls_shown (span_at facts.start) (counts_at facts) (counts_of (refused back)) (runs back) closed text
   runs_closed replies secret cap same image_pages fits books framed ends left books_are replies_are
       closed_before closed none closed_is text_before text shown pages no_text text_is shown_is pages_are =
       let left_back : IsHandedBack facts lock (span back) (runs back) (refused back) =
       subst (λ (m : X). IsHandedBack facts lock (span m) (runs m) (refused m)) (sym same) left in
       let told : IsTold replies (books_of_hands hands) = (
-        account_closed plan replies facts.start lock hands (counts_at facts) (counts_of (refused back)) fits books ends.words.lawful.range
+        account_closed plan mode replies facts.start lock hands (counts_at facts) (counts_of (refused back)) fits books ends.words.lawful.range
             ends.history ends.excuses left_back.leads left_back.bookless ends.own refl left_back.counted
-            (most_of_cap plan facts.start.cap facts.most (refused back).most cap left_back.most),
+            (most_of_cap plan mode facts.start.cap facts.most (refused back).most cap left_back.most),
         image_closed facts lock hands (span back) (runs back) (refused back) heap.image.words secret ends framed left_back,
       ) in
       let entries_are : entries_of heap.books ≡ books_of_hands hands = ap entries_of books_are ∙ entries-books hands in
       let told_heap : IsTold heap.replies (entries_of heap.books) =
       subst (λ (rs : List (List Reply)). IsTold rs (entries_of heap.books)) (sym replies_are)
       (subst (λ (es : List (List Entry)). IsTold replies es) (sym entries_are) told) in
-      let reported : text ≡ report plan plain calls_shown heap.replies (sum_by (λ (run : mapper.Run). run.1) (runs back)) =
-      text_is ∙ ap (λ (t : List ℕ). t ++ report plan plain calls_shown shown pages) no_text
-      ∙ ap (λ (rs : List (List Reply)). report plan plain calls_shown rs pages) (shown_is ∙ sym replies_are)
-      ∙ ap (λ (n : ℕ). report plan plain calls_shown heap.replies n) pages_are in record {
+      let reported : text ≡ report plan mode calls_shown heap.replies (sum_by (λ (run : mapper.Run). run.1) (runs back)) =
+      text_is ∙ ap (λ (t : List ℕ). t ++ report plan mode calls_shown shown pages) no_text
+      ∙ ap (λ (rs : List (List Reply)). report plan mode calls_shown rs pages) (shown_is ∙ sym replies_are)
+      ∙ ap (λ (n : ℕ). report plan mode calls_shown heap.replies n) pages_are in record {
         heap = heap;
         one = closed_is ∙ ap (λ (before : List Closed). before ++ heap ∷ []) none;
         pages = image_pages;
@@ -189,29 +190,29 @@ counts_opened facts span live refused fresh most =
     let count = fresh.count in λ i. record { refusals = count i; most = most i }
 
 -- how a run ends, told by the mapper that its heap was opened over
-pub ends_opened : (plan : Plan) (calls_shown : Bool) (facts : Facts) (span : Span) (before live : List mapper.Run) (refused : Refusals) (now : Counts)
+pub ends_opened : (plan : Plan) (mode : Mode) (calls_shown : Bool) (facts : Facts) (span : Span) (before live : List mapper.Run) (refused : Refusals) (now : Counts)
     (closed : List Closed) (written written' : Option (List ℕ)) (status : Status) → IsFreshMapper facts.start span before refused → refused.most ≡ facts.most
-    → Ends plan calls_shown (span_at facts.start) (counts_at facts) now live closed written written' status
-    → Ends plan calls_shown span (counts_of refused) now live closed written written' status
-ends_opened plan calls_shown facts span before live refused now closed written written' status fresh most ends =
-    subst (λ (s : Span). Ends plan calls_shown s (counts_of refused) now live closed written written' status) (sym (span_opened facts span before refused fresh))
-    (subst (λ (c : Counts). Ends plan calls_shown (span_at facts.start) c now live closed written written' status)
+    → Ends plan mode calls_shown (span_at facts.start) (counts_at facts) now live closed written written' status
+    → Ends plan mode calls_shown span (counts_of refused) now live closed written written' status
+ends_opened plan mode calls_shown facts span before live refused now closed written written' status fresh most ends =
+    subst (λ (s : Span). Ends plan mode calls_shown s (counts_of refused) now live closed written written' status) (sym (span_opened facts span before refused fresh))
+    (subst (λ (c : Counts). Ends plan mode calls_shown (span_at facts.start) c now live closed written written' status)
     (sym (counts_opened facts span before refused fresh most)) ends)
 
 -- ---- what a top call owes where the report was written, or a beginning of it
-module _ (verb : Verb) (texts : List (List ℕ)) (plan : Plan) (calls_shown : Bool) (left left' : Option (List ℕ)) (span : Span) (before now : Counts)
+module _ (verb : Verb) (texts : List (List ℕ)) (plan : Plan) (mode : Mode) (calls_shown : Bool) (left left' : Option (List ℕ)) (span : Span) (before now : Counts)
     (live : List mapper.Run) (closed : List Closed) (written written' : Option (List ℕ)) (status : Status) where
   abbrev EndsLate : Type 0
-  EndsLate = IsLate status → Ends plan calls_shown span before now live closed written written' status
+  EndsLate = IsLate status → Ends plan mode calls_shown span before now live closed written written' status
 
-  pub writes_report : ShowsCalls verb texts calls_shown → PlansInput left left' plan → EndsLate → status ≡ Done
+  pub writes_report : AsksReport verb texts calls_shown mode → PlansInput left left' plan → EndsLate → status ≡ Done
       → WritesReport verb texts left left' span before now live closed written written'
   writes_report words input ends is =
-      let told = subst (λ (s : Status). Ends plan calls_shown span before now live closed written written' s) is (ends (subst IsLate (sym is) tt)) in
-      record { text = told.0; serves = record { calls_shown = calls_shown; words = words; plan = plan; input = input; run = told.1 }; whole = told.2 }
+      let told = subst (λ (s : Status). Ends plan mode calls_shown span before now live closed written written' s) is (ends (subst IsLate (sym is) tt)) in
+      record { text = told.0; serves = record { calls_shown = calls_shown; mode = mode; words = words; plan = plan; input = input; run = told.1 }; whole = told.2 }
 
-  pub writes_beginning : ShowsCalls verb texts calls_shown → PlansInput left left' plan → EndsLate → status ≡ WriteFault
+  pub writes_beginning : AsksReport verb texts calls_shown mode → PlansInput left left' plan → EndsLate → status ≡ WriteFault
       → WritesBeginning verb texts left left' span before now live closed written written'
   writes_beginning words input ends is =
-      let told = subst (λ (s : Status). Ends plan calls_shown span before now live closed written written' s) is (ends (subst IsLate (sym is) tt)) in
-      record { text = told.0; serves = record { calls_shown = calls_shown; words = words; plan = plan; input = input; run = told.1 }; part = told.2 }
+      let told = subst (λ (s : Status). Ends plan mode calls_shown span before now live closed written written' s) is (ends (subst IsLate (sym is) tt)) in
+      record { text = told.0; serves = record { calls_shown = calls_shown; mode = mode; words = words; plan = plan; input = input; run = told.1 }; part = told.2 }

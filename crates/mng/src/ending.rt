@@ -4,7 +4,7 @@ ghost use Rattle.mng.specs.Opened.{counts_at, span_at};
 ghost use Rattle.mng.specs.Statuses.{IsLate};
 ghost use Rattle.mng.specs.Tool.{Ends, Runs};
 ghost use Rattle.ng_replay.specs.Books.{AreAllFramed, AreBooks};
-ghost use Rattle.ng_replay.specs.Serving.{IsCapOf, counts_of, plain};
+ghost use Rattle.ng_replay.specs.Serving.{IsCapOf, counts_of};
 ghost use Rattle.ng_space.specs.Closings.{IsEven};
 ghost use Rattle.ng_terms.specs.Calls.{Fits};
 ghost use Rattle.ng_terms.specs.Causes.{Rose};
@@ -19,13 +19,7 @@ use ng_mtrace::{Failed, Sink, write_all};
 use ng_policy::Rules;
 use ng_report::render;
 use ng_space::{Hand, Name};
-use ng_terms::{Items, Mode, Reply};
-
-/// Blocks are made with the common alignment, and their bytes aren't set.
-const PLAIN: Mode = Mode {
-    align: None,
-    zero: false,
-};
+use ng_terms::{Items, Reply};
 
 /// Closes a heap on which the ops of a plan were done, and writes the report of their replies. It takes no memory.
 pub fn ended<N: Name, O: Sink, M: Mapper, P: Rules + Drop>(
@@ -39,16 +33,16 @@ pub fn ended<N: Name, O: Sink, M: Mapper, P: Rules + Drop>(
 ) -> (Status, M, Vec<Closed>)
     requires secret { N.facts.start.secret ≡ program_secret }
     requires all { length prepared.plan.logs ≡ N.facts.hands }
-    requires cap { IsCapOf N.facts.start.cap prepared.plan }
-    requires fits { Fits prepared.plan plain replies.items }
-    requires books { AreBooks prepared.plan replies.items hands.items }
+    requires cap { IsCapOf N.facts.start.cap prepared.plan prepared.mode }
+    requires fits { Fits prepared.plan prepared.mode replies.items }
+    requires books { AreBooks prepared.plan prepared.mode replies.items hands.items }
     requires framed { AreAllFramed hands.items }
     requires even { IsEven hands.items }
     requires none { closed.items ≡ [] }
     requires one { 1 ≤ vec_capacity closed }
     ensures late { IsLate result.0 }
     ensures write_fault { result.0 ≡ Status.WriteFault → Rose (O.faults out.old) (O.faults out.new) }
-    ensures ends { Ends prepared.plan prepared.calls_shown (span_at N.facts.start)
+    ensures ends { Ends prepared.plan prepared.mode prepared.calls_shown (span_at N.facts.start)
         (counts_at N.facts) (counts_of (M.refused result.1)) (M.runs result.1) result.2.items
         (O.written out.old) (O.written out.new) result.0 }
     ensures span { M.span result.1 ≡ span_at N.facts.start }
@@ -71,26 +65,27 @@ fn reported<N: Name, M: Mapper, P: Rules + Drop>(
 ) -> (M, Vec<Closed>, Vec<u8>)
     requires secret { N.facts.start.secret ≡ program_secret }
     requires all { length prepared.plan.logs ≡ N.facts.hands }
-    requires cap { IsCapOf N.facts.start.cap prepared.plan }
-    requires fits { Fits prepared.plan plain replies.items }
-    requires books { AreBooks prepared.plan replies.items hands.items }
+    requires cap { IsCapOf N.facts.start.cap prepared.plan prepared.mode }
+    requires fits { Fits prepared.plan prepared.mode replies.items }
+    requires books { AreBooks prepared.plan prepared.mode replies.items hands.items }
     requires framed { AreAllFramed hands.items }
     requires even { IsEven hands.items }
     requires none { closed.items ≡ [] }
     requires one { 1 ≤ vec_capacity closed }
-    ensures runs { Runs prepared.plan prepared.calls_shown (span_at N.facts.start)
+    ensures runs { Runs prepared.plan prepared.mode prepared.calls_shown (span_at N.facts.start)
         (counts_at N.facts) (counts_of (M.refused result.0)) (M.runs result.0) result.1.items result.2.items }
     ensures span { M.span result.0 ≡ span_at N.facts.start }
 {
     let Prepared {
         plan,
+        mode,
         calls_shown,
         mut text,
     } = prepared;
     let (image, books, mapper) = heap.close(core, hands);
     render(
         &plan,
-        PLAIN,
+        mode,
         calls_shown,
         replies.as_slice(),
         mapper.live_pages(),

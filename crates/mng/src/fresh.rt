@@ -14,7 +14,7 @@ use ng_mapper::Mapper;
 use ng_replay::cap_of;
 use ng_script::Script;
 use ng_space::{Blank, Start};
-use ng_terms::{Host, Items, Op, Plan};
+use ng_terms::{Host, Items, Mode, Op, Plan};
 use std::alloc::{AllocError, Global};
 
 /// The secret of the program's heap.
@@ -34,8 +34,13 @@ pub struct Fresh {
 }
 
 impl Fresh {
-    /// Takes the memory of a heap for a plan, over a mapper.
-    pub fn for_plan<M: Mapper>(alloc: Global, plan: &Plan, mapper: &M) -> Result<Fresh, Host>
+    /// Takes the memory of a heap for a plan under a mode, over a mapper.
+    pub fn for_plan<M: Mapper>(
+        alloc: Global,
+        plan: &Plan,
+        mode: Mode,
+        mapper: &M,
+    ) -> Result<Fresh, Host>
         requires few { length plan.now.logs ≤ 16 }
         requires short { op_count plan.now.logs ≤ 1000000 }
         requires least { 16 ≤ (M.span mapper.now).size }
@@ -43,12 +48,12 @@ impl Fresh {
         requires refusals { (M.refused mapper.now).count < 2 ^ 62 }
         ensures fits { IfOk result (λ fresh. IsFreshOver (M.span mapper.now) (M.refused mapper.now) fresh.blank fresh.tables) }
         ensures rooms { IfOk result (λ fresh. fresh.blank.rooms ≡ rooms_for plan.now) }
-        ensures cap { IfOk result (λ fresh. IsCapOf fresh.blank.start.cap plan.now) }
+        ensures cap { IfOk result (λ fresh. IsCapOf fresh.blank.start.cap plan.now mode) }
     {
         let Ok(rooms) = rooms(alloc, plan.logs.as_slice()) else {
             return Err(Host);
         };
-        Fresh::over(alloc, mapper, cap_of(plan), rooms.as_slice())
+        Fresh::over(alloc, mapper, cap_of(plan, mode), rooms.as_slice())
     }
 
     /// Takes the memory of a heap for a script, over a mapper.

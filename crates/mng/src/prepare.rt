@@ -8,21 +8,24 @@ ghost use Rattle.ng_terms.specs.Causes.{Rose};
 ghost use Rattle.mng.specs.Causes.{IsDue};
 ghost use Rattle.mng.specs.Inputs.{HasNoLog, PlansInput};
 ghost use Rattle.mng.specs.Statuses.{told_by, IsEarly, IsInputFault};
-ghost use Rattle.mng.specs.Words.{texts_of, ShowsCalls};
+ghost use Rattle.mng.specs.Words.{texts_of, AsksReport};
 
+use crate::asked::Command;
 use crate::status::Status;
 use crate::verb::Verb;
 use crate::words::command;
 use ng_mtrace::{LogFault, Source, read_logs};
 use ng_plan::plan;
 use ng_report::report_room;
-use ng_terms::{Host, Plan};
+use ng_terms::{Host, Mode, Plan};
 use std::alloc::Global;
 
 /// What a run needs, all of it made before the first heap call.
 #[derive(Drop)]
 pub struct Prepared {
     pub plan: Plan,
+    /// How the run makes blocks.
+    pub mode: Mode,
     /// Whether the report has a line for each call.
     pub calls_shown: bool,
     /// Room for the report.
@@ -40,7 +43,7 @@ pub fn prepare<I: Source>(
     input: &mut I,
     verb: Verb,
 ) -> Result<Prepared, Status>
-    ensures words { IfOk result (λ run. ShowsCalls verb (texts_of words.now) run.calls_shown) }
+    ensures words { IfOk result (λ run. AsksReport verb (texts_of words.now) run.calls_shown run.mode) }
     ensures input { IfOk result (λ run. PlansInput (I.left input.old) (I.left input.new) run.plan) }
     ensures sound { IfOk result (λ run. IsSound run.plan) }
     ensures unfailed { IfOk result (λ run. I.exact → I.faults input.new ≡ I.faults input.old) }
@@ -52,24 +55,27 @@ pub fn prepare<I: Source>(
         return Err(Status::Usage);
     };
     let plan = planned_input(alloc, input)?;
-    match with_room(alloc, plan, command.calls_shown) {
+    match with_room(alloc, plan, command) {
         Ok(prepared) => Ok(prepared),
         Err(_) => Err(Status::Host),
     }
 }
 
 /// The plan with room for its replies and its report.
-fn with_room(alloc: Global, plan: Plan, calls_shown: bool) -> Result<Prepared, Host>
+fn with_room(alloc: Global, plan: Plan, command: Command) -> Result<Prepared, Host>
     requires few { length plan.logs ≤ 16 }
     requires short { op_count plan.logs ≤ 1000000 }
     ensures plan { IfOk result (λ run. run.plan ≡ plan) }
-    ensures calls { IfOk result (λ run. run.calls_shown ≡ calls_shown) }
+    ensures mode { IfOk result (λ run. run.mode ≡ command.mode) }
+    ensures calls { IfOk result (λ run. run.calls_shown ≡ command.calls_shown) }
 {
+    let Command { calls_shown, mode } = command;
     let Ok(text) = Vec::with_capacity(alloc, report_room(&plan, calls_shown)) else {
         return Err(Host);
     };
     Ok(Prepared {
         plan,
+        mode,
         calls_shown,
         text,
     })

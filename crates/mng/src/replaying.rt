@@ -89,7 +89,7 @@ pub fn replay<
         Ok(prepared) => prepared,
         Err(status) => return (status, mapper, Vec::new(alloc)),
     };
-    match Fresh::for_plan(alloc, &prepared.plan, &mapper) {
+    match Fresh::for_plan(alloc, &prepared.plan, prepared.mode, &mapper) {
         Ok(fresh) => run_beside::<_, Brand, _, _, _, _>(
             rt, alloc, prepared, fresh, mapper, policy, out, gate,
         ),

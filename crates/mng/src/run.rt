@@ -36,10 +36,10 @@ pub fn run<N: Name, O: Sink, M: Mapper, P: Rules + Drop>(
     requires sound { IsSound prepared.plan }
     requires rooms { fresh.blank.rooms ≡ rooms_for prepared.plan }
     requires hands { length prepared.plan.logs ≡ N.facts.hands }
-    requires cap { IsCapOf N.facts.start.cap prepared.plan }
+    requires cap { IsCapOf N.facts.start.cap prepared.plan prepared.mode }
     ensures late { (result.0 ≡ Status.Host) ⊎ IsLate result.0 }
     ensures write_fault { result.0 ≡ Status.WriteFault → Rose (O.faults out.old) (O.faults out.new) }
-    ensures ends { IsLate result.0 → Ends prepared.plan prepared.calls_shown (M.span mapper)
+    ensures ends { IsLate result.0 → Ends prepared.plan prepared.mode prepared.calls_shown (M.span mapper)
         (counts_of (M.refused mapper)) (counts_of (M.refused result.1)) (M.runs result.1) result.2.items
         (O.written out.old) (O.written out.new) result.0 }
     ensures span { M.span result.1 ≡ M.span mapper }
@@ -59,7 +59,14 @@ pub fn run<N: Name, O: Sink, M: Mapper, P: Rules + Drop>(
     };
     match Room::for_plan(alloc, &prepared.plan) {
         Ok(room) => {
-            let replies = serial(&heap, &mut core, &mut hands, &prepared.plan, room);
+            let replies = serial(
+                &heap,
+                &mut core,
+                &mut hands,
+                &prepared.plan,
+                prepared.mode,
+                room,
+            );
             ended(heap, core, hands, replies, prepared, closed, out)
         }
         Err(Host) => {

@@ -30,6 +30,17 @@ const MANUAL_REPORT: &[u8] = b"1 skip 0x8064cc8\n1 skip 0x8064ce0\n1 skip 0x8064
 1 malloc 0x14 0x2040\n1 malloc 0x14 0x2060\n1 malloc 0x14 0x2080\n1 malloc 0x14 0x20a0\n\
 logs 1\ncalls 4\ngiven 4\ntaken 0\nresized 0\nnomemory 0\ntoolarge 0\nbadalign 0\nskipped 3\nabsent 0\nleft 4\npages 2\n";
 
+const ONE_BLOCK: &[u8] = b"= Start\n+ 0x10 0x64\n= End\n";
+
+const ZEROS: &[u8] = b"1 calloc 0x64 0x2040\n\
+logs 1\ncalls 1\ngiven 1\ntaken 0\nresized 0\nnomemory 0\ntoolarge 0\nbadalign 0\nskipped 0\nabsent 0\nleft 1\npages 2\n";
+
+const ALIGNED: &[u8] = b"1 aligned 0x200000 0x64 0x200000\n\
+logs 1\ncalls 1\ngiven 1\ntaken 0\nresized 0\nnomemory 0\ntoolarge 0\nbadalign 0\nskipped 0\nabsent 0\nleft 1\npages 514\n";
+
+const BADLY_ALIGNED: &[u8] = b"1 aligned 0x18 0x64 BadAlign\n\
+logs 1\ncalls 1\ngiven 0\ntaken 0\nresized 0\nnomemory 0\ntoolarge 0\nbadalign 1\nskipped 0\nabsent 0\nleft 0\npages 0\n";
+
 /// What `tool` answers and writes, where these reads and writes fail.
 pub(crate) fn replayed(
     alloc: Global,
@@ -93,6 +104,40 @@ fn four_blocks_of_a_group(rt: HostRuntime) -> Result<(), Fail> {
     let (status, sink) = replayed(rt.alloc(), &["serial", "--calls"], FOUR_BLOCKS, &[], &[])?;
     assert_eq!(rt; status, Status::Done);
     assert_eq!(rt; sink.bytes(), FOUR_REPLIES);
+    Ok(())
+}
+
+#[test]
+fn a_block_made_each_way(rt: HostRuntime) -> Result<(), Fail> {
+    let cases: &[(&[&str], &[u8])] = &[
+        (&["serial", "--calls", "--zero"], ZEROS),
+        (&["serial", "--calls", "--align", "0x200000"], ALIGNED),
+        (&["serial", "--align", "24", "--calls"], BADLY_ALIGNED),
+    ];
+    for &(words, report) in cases {
+        let (status, sink) = replayed(rt.alloc(), words, ONE_BLOCK, &[], &[])?;
+        assert_eq!(rt; status, Status::Done);
+        assert_eq!(rt; sink.bytes(), report);
+    }
+    Ok(())
+}
+
+#[test]
+fn a_wide_header(rt: HostRuntime) -> Result<(), Fail> {
+    let sink = BytesOut::new(rt.alloc(), 1000, Vec::new(rt.alloc()))?;
+    let (status, _sink, closed) = replayed_into(
+        rt.alloc(),
+        &["serial", "--align", "0x200000"],
+        ONE_BLOCK,
+        &[],
+        sink,
+    )?;
+    assert_eq!(rt; status, Status::Done);
+    let Some(heap) = closed.as_slice().first() else {
+        return Err("a heap was closed")?;
+    };
+    // The block begins at 0x200000, 130559 units behind the group's first slot.
+    assert_eq!(rt; cell_at(&heap.image, 0x1f_fff8), Some(130_559));
     Ok(())
 }
 

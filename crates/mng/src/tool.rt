@@ -144,7 +144,7 @@ fn do_logs<I: Source, O: Sink, M: Mapper, C: Fn(Ask) -> u32 + Drop, K: Fn(Spare)
         Ok(prepared) => prepared,
         Err(status) => return (status, mapper, Vec::new(alloc)),
     };
-    match Fresh::for_plan(alloc, &prepared.plan, &mapper) {
+    match Fresh::for_plan(alloc, &prepared.plan, prepared.mode, &mapper) {
         Ok(fresh) => run::<Brand, _, _, _>(alloc, prepared, fresh, mapper, policy, out),
         Err(Host) => (Status::Host, mapper, Vec::new(alloc)),
     }

@@ -1,13 +1,13 @@
 ghost use Rattle.std.specs.Prelude.{◌≡◌, ◌≢◌, ◌≤◌, ◌↔◌, IfOk, IfErr, IfSome, IfNone, Err, Some, None, [], unwrap_or};
-ghost use Rattle.mng.specs.Words.{texts_of, AsksSpace, InLanguage, ShowsCalls};
-ghost use Rattle.mng.specs.Givens.{allowed, pages_of, list_of, number_added, calls_added, pages_added, refuse_added, pair_added, options_added, given_of};
+ghost use Rattle.mng.specs.Words.{texts_of, AsksReport, AsksSpace, InLanguage};
+ghost use Rattle.mng.specs.Givens.{allowed, takes, is_flag, pages_of, list_of, number_added, calls_added, zero_added, flag_added, pages_added, refuse_added, align_added, pair_added, options_added, given_of};
 
 use crate::asked::{Command, Given, Setup};
 use crate::numbers::Numbers;
 use crate::status::Status;
 use crate::verb::Verb;
 use ng_script::number;
-use ng_terms::{Host, Items};
+use ng_terms::{Host, Items, Mode};
 use std::alloc::Global;
 
 /// The pages of a space where the words don't tell.
@@ -36,12 +36,16 @@ pub fn setup(alloc: Global, words: &[String]) -> Result<Setup, Status>
 
 /// What the words of this command ask. `None`: they aren't in its language.
 pub fn command(words: &[String], verb: Verb) -> Option<Command>
-    ensures some { IfSome result (λ command. ShowsCalls verb (texts_of words.now) command.calls_shown) }
+    ensures some { IfSome result (λ command. AsksReport verb (texts_of words.now) command.calls_shown command.mode) }
     ensures none { IfNone result (¬ InLanguage verb (texts_of words.now)) }
 {
     let given = given(words, verb)?;
     Some(Command {
         calls_shown: given.calls_shown,
+        mode: Mode {
+            align: given.align,
+            zero: given.zero,
+        },
     })
 }
 
@@ -78,8 +82,10 @@ fn given(words: &[String], verb: Verb) -> Option<Given>
         [name, options @ ..] if name.as_str() == verb.name() => {
             let nothing = Given {
                 calls_shown: false,
+                zero: false,
                 pages: None,
                 refuse: None,
+                align: None,
             };
             allowed(verb, with_options(nothing, options)?)
         }
@@ -91,9 +97,20 @@ fn given(words: &[String], verb: Verb) -> Option<Given>
 fn allowed(verb: Verb, given: Given) -> Option<Given>
     ensures { result ≡ allowed verb given }
 {
+    if takes(verb, &given) {
+        Some(given)
+    } else {
+        None
+    }
+}
+
+/// Whether the command takes what was given: blocks aren't both aligned and cleared, and a drill has none of these options.
+fn takes(verb: Verb, given: &Given) -> bool
+    ensures { result ≡ takes verb given.now }
+{
     match verb {
-        Verb::Drill if given.calls_shown => None,
-        _ => Some(given),
+        Verb::Serial | Verb::Replay => !given.zero || given.align.is_none(),
+        Verb::Drill => !given.calls_shown && !given.zero && given.align.is_none(),
     }
 }
 
@@ -104,13 +121,33 @@ fn with_options(given: Given, words: &[String]) -> Option<Given>
 {
     match words {
         [] => Some(given),
-        [option, others @ ..] if option.as_str() == "--calls" => {
-            with_options(with_calls(given)?, others)
+        [option, others @ ..] if is_flag(option.as_str()) => {
+            with_options(with_flag(given, option.as_str())?, others)
         }
         [option, text, others @ ..] => {
             with_options(with_pair(given, option.as_str(), text.as_str())?, others)
         }
         _ => None,
+    }
+}
+
+/// Whether an option has no text behind it.
+#[tactic(auto, unfolding(crate::specs::Givens::is_flag))]
+fn is_flag(option: &str) -> bool
+    ensures { result ≡ is_flag option.now }
+{
+    option == "--calls" || option == "--zero"
+}
+
+/// What was given, and an option without a text.
+#[tactic(auto, unfolding(crate::specs::Givens::flag_added))]
+fn with_flag(given: Given, option: &str) -> Option<Given>
+    ensures { result ≡ flag_added given option.now }
+{
+    if option == "--calls" {
+        with_calls(given)
+    } else {
+        with_zero(given)
     }
 }
 
@@ -128,6 +165,20 @@ fn with_calls(given: Given) -> Option<Given>
     })
 }
 
+/// What was given, and `--zero`.
+#[tactic(auto, unfolding(crate::specs::Givens::zero_added))]
+fn with_zero(given: Given) -> Option<Given>
+    ensures { result ≡ zero_added given }
+{
+    if given.zero {
+        return None;
+    }
+    Some(Given {
+        zero: true,
+        ..given
+    })
+}
+
 /// What was given, and an option with the text behind it.
 #[tactic(auto, unfolding(crate::specs::Givens::pair_added))]
 fn with_pair(given: Given, option: &str, text: &str) -> Option<Given>
@@ -137,6 +188,8 @@ fn with_pair(given: Given, option: &str, text: &str) -> Option<Given>
         with_pages(given, text)
     } else if option == "--refuse" {
         with_refuse(given, text)
+    } else if option == "--align" {
+        with_align(given, text)
     } else {
         None
     }
@@ -168,6 +221,21 @@ fn with_refuse(given: Given, text: &str) -> Option<Given>
     let numbers = list(text)?;
     Some(Given {
         refuse: Some(numbers),
+        ..given
+    })
+}
+
+/// What was given, and `--align` with its number.
+#[tactic(auto, unfolding(crate::specs::Givens::align_added))]
+fn with_align(given: Given, text: &str) -> Option<Given>
+    ensures { result ≡ align_added given text.now }
+{
+    if given.align.is_some() {
+        return None;
+    }
+    let align = number(text.as_bytes())?;
+    Some(Given {
+        align: Some(align),
         ..given
     })
 }

@@ -1,6 +1,8 @@
+use crate::asked::Command;
 use crate::status::Status;
 use crate::verb::Verb;
 use crate::words::{command, setup};
+use ng_terms::Mode;
 use std::alloc::Global;
 use std::test::Fail;
 
@@ -66,6 +68,66 @@ fn words_of_replay(rt: HostRuntime) -> Result<(), Fail> {
         Some(true)
     );
     assert_eq!(rt; command(texts.as_slice(), Verb::Serial), None);
+    Ok(())
+}
+
+#[test]
+fn ways_to_make_blocks(rt: HostRuntime) -> Result<(), Fail> {
+    let alloc = rt.alloc();
+    let aligned = texts_of(alloc, &["serial", "--align", "0x18", "--calls"])?;
+    let cleared = texts_of(alloc, &["replay", "--zero", "--pages", "64"])?;
+    assert_eq!(rt;
+        command(aligned.as_slice(), Verb::Serial),
+        Some(Command {
+            calls_shown: true,
+            mode: Mode {
+                align: Some(24),
+                zero: false,
+            },
+        })
+    );
+    assert_eq!(rt;
+        command(cleared.as_slice(), Verb::Replay),
+        Some(Command {
+            calls_shown: false,
+            mode: Mode {
+                align: None,
+                zero: true,
+            },
+        })
+    );
+    Ok(())
+}
+
+#[test]
+fn alignments_that_no_block_has(rt: HostRuntime) -> Result<(), Fail> {
+    let alloc = rt.alloc();
+    let words = texts_of(alloc, &["serial", "--align", "18446744073709551615"])?;
+    let asked = command(words.as_slice(), Verb::Serial).map(|command| command.mode.align);
+    assert_eq!(rt; asked, Some(Some(u64::MAX)));
+    let words = texts_of(alloc, &["serial", "--align", "18446744073709551616"])?;
+    assert_eq!(rt; command(words.as_slice(), Verb::Serial), None);
+    Ok(())
+}
+
+#[test]
+fn words_in_no_language(rt: HostRuntime) -> Result<(), Fail> {
+    let alloc = rt.alloc();
+    let all: [&[&str]; 8] = [
+        &["serial", "--zero", "--zero"],
+        &["serial", "--zero", "1"],
+        &["serial", "--align"],
+        &["serial", "--align", "x"],
+        &["replay", "--align", "16", "--align", "16"],
+        &["replay", "--align", "16", "--zero"],
+        &["drill", "--zero"],
+        &["drill", "--align", "16"],
+    ];
+    for words in &all {
+        let texts = texts_of(alloc, words)?;
+        let answer = setup(alloc, texts.as_slice());
+        assert!(rt; matches!(answer, Err(Status::Usage)));
+    }
     Ok(())
 }
 

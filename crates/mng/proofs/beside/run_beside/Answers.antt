@@ -23,4 +23,4 @@ close-image-requires-clause-parcels g c =
 
 pub returns-in-Ok-open-2-clause-ends : goal.returns-in-Ok-open-2-clause-ends
 returns-in-Ok-open-2-clause-ends g c = λ late.
-    ends_opened _ _ g.N.Name.facts _ _ _ _ _ _ _ _ _ c.requires.named.mapper c.requires.named.most c.ended.ensures.ends
+    ends_opened _ _ _ g.N.Name.facts _ _ _ _ _ _ _ _ _ c.requires.named.mapper c.requires.named.most c.ended.ensures.ends

@@ -12,4 +12,4 @@ close-image-requires-clause-parcels g c = even_opened c.args.fresh.blank.rooms _
 
 pub returns-in-Ok-for_plan-clause-ends : goal.returns-in-Ok-for_plan-clause-ends
 returns-in-Ok-for_plan-clause-ends g c = λ late.
-    ends_opened _ _ g.N.Name.facts _ _ _ _ _ _ _ _ _ c.requires.named.mapper c.requires.named.most c.ended.ensures.ends
+    ends_opened _ _ _ g.N.Name.facts _ _ _ _ _ _ _ _ _ c.requires.named.mapper c.requires.named.most c.ended.ensures.ends

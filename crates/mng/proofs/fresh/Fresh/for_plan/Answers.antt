@@ -1,5 +1,3 @@
-use Rattle.std.proofs.Common.{rules, ◌≡◌, List, map, length, ap, ◌∙◌}
-use Rattle.ng_terms.specs.declared.plan.Op.{Op}
 use Rattle.mng.proofs.fresh.Fresh.for_plan.Goals as goal
 
 pub returns-clause-rooms : goal.returns-clause-rooms
