@@ -1,5 +1,5 @@
 -- A crew that was opened, and workers that may begin.
-use Rattle.std.proofs.Common.{◌≡◌, ℕ, suc, zero, ◌+◌, ◌*◌, ◌-◌, ◌<◌, ◌≤◌, List, [], ◌∷◌, length, get_or, map, vec_capacity, arith, refl, ap, sym, subst, ◌∙◌}
+use Rattle.std.proofs.Common.{◌≡◌, ℕ, ◌+◌, ◌*◌, ◌-◌, ◌<◌, ◌≤◌, List, [], length, get_or, map, vec_capacity, arith, ap, sym, subst, ◌∙◌}
 use Rattle.std.specs.Global.{Vec}
 use Rattle.std.specs.Prelude.{All}
 use Rattle.std.proofs.lemmas.List.{get_or-map, length-map}
@@ -10,7 +10,6 @@ use Rattle.ng_post.specs.declared.boxes.Boxes.{Boxes}
 use Rattle.ng_post.specs.declared.boxes.Door.{Door}
 use Rattle.ng_post.specs.Doors.{IsDoorOf}
 use Rattle.ng_post.specs.Opened.{AreOpened, IsFresh, received_by}
-use Rattle.ng_space.specs.Blocks.{BlockToken}
 use Rattle.ng_space.specs.Callers.{Caller, fresh_caller, fresh_callers}
 use Rattle.ng_terms.specs.declared.plan.Op.{Op}
 use Rattle.ng_terms.specs.declared.plan.Plan.{Plan}

@@ -1,14 +1,14 @@
 -- What all workers leave once they have done their ops.
-use Rattle.std.proofs.Common.{◌≡◌, ℕ, ◌+◌, ◌-◌, ◌<◌, ◌≤◌, Bool, true, List, [], Option, Some, None, length, get_or, map, vec_len, arith, refl, ap, sym, subst, ◌∙◌}
-use Rattle.std.specs.Prelude.{All, Contains, count_by, flat_map, sum_by}
+use Rattle.std.proofs.Common.{◌≡◌, ℕ, ◌-◌, ◌<◌, ◌≤◌, true, List, [], Option, Some, None, length, get_or, map, vec_len, arith, refl, ap, sym, subst, ◌∙◌}
+use Rattle.std.specs.Prelude.{Contains, count_by}
 use Rattle.std.specs.List.{AllZip, list_any}
 use Rattle.std.proofs.lemmas.List.{get_or-map, length-map}
 use Rattle.ng_plan.specs.declared.step.Place.{Place}
 use Rattle.ng_plan.specs.Sound.{IsHandedOff, IsIn, IsNumbered, IsSound, op_in, op_of_log}
 use Rattle.ng_post.specs.declared.boxes.Boxes.{Boxes}
 use Rattle.ng_post.specs.declared.boxes.Door.{Door}
-use Rattle.ng_post.specs.Doors.{AreDoorsOf, IsNumber}
-use Rattle.ng_post.specs.Ends.{AreCollected, AreHandedOver, ArePostedOnce, is_of, is_sent}
+use Rattle.ng_post.specs.Doors.{AreDoorsOf}
+use Rattle.ng_post.specs.Ends.{AreCollected, AreHandedOver, ArePostedOnce, is_of}
 use Rattle.ng_post.specs.Letters.{Pair}
 use Rattle.ng_space.specs.Callers.{Caller, fresh_caller}
 use Rattle.ng_space.specs.Closings.{IsEven}
@@ -21,11 +21,11 @@ use Rattle.ng_terms.specs.declared.plan.Plan.{Plan}
 use Rattle.ng_terms.specs.declared.reply.Mode.{Mode}
 use Rattle.ng_terms.specs.declared.reply.Reply.{Reply}
 use Rattle.ng_terms.specs.declared.reply.Reply.TheVariants.{Absent}
-use Rattle.ng_terms.specs.Calls.{Fits, FitsOp, handed_as, origin_of, source_of, standing, standing_of_number}
+use Rattle.ng_terms.specs.Calls.{Fits, FitsOp, handed_as, origin_of, source_of, standing_of_number}
 use Rattle.ng_replay.specs.Books.{AreAllFramed, AreBooks, hand_at}
 use Rattle.ng_replay.specs.Crews.{AreEnded, HaveDone}
-use Rattle.ng_replay.specs.Serial.{reply_at, stands_at}
-use Rattle.ng_replay.specs.Works.{AreDone, blocks_among, claimed_by, collected_as, posted_of, source_by}
+use Rattle.ng_replay.specs.Serial.{stands_at}
+use Rattle.ng_replay.specs.Works.{AreDone, blocks_among, collected_as, source_by}
 use Rattle.ng_replay.specs.declared.worker.Worker.{Worker}
 use Rattle.ng_replay.proofs.FlatLemmas.{count-once, element, sum-same}
 use Rattle.ng_replay.proofs.HandLemmas.{total-sum}

@@ -19,7 +19,6 @@ use Rattle.ng_terms.specs.declared.reply.Mode.{Mode}
 use Rattle.ng_terms.specs.declared.reply.Reply.{Reply}
 use Rattle.ng_terms.specs.Calls.{calls_of, calls_of_log}
 use Rattle.ng_view.specs.Lists.{Among, total_by}
-use Rattle.ng_view.specs.declared.view.View.{View}
 use Rattle.ng_replay.specs.Books.{AreBooks, hand_at, rooms_for}
 use Rattle.ng_replay.specs.Serial.{AreHeld, AreInHand, IsBalanced, KeepsBalance, done_in}
 use Rattle.ng_replay.proofs.BookLemmas.{AreBooks-more, calls_of_log-none, hand_at-other, hand_at-same}

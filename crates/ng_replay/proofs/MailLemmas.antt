@@ -1,43 +1,27 @@
 -- What the doors hold once all ops are done, and what the replies are then.
-use Rattle.std.proofs.Common.{◌≡◌, ◌≢◌, ℕ, zero, suc, ◌+◌, ◌-◌, ◌<◌, ◌≤◌, Bool, true, List, [], ◌∷◌, Option, Some, None, length, get_or, map, arith, refl, ap, sym, subst, ⊎_elim, ◌∙◌}
-use Rattle.std.specs.Prelude.{All, Contains, count_by, find, flat_map, sum_by}
-use Rattle.std.specs.List.{AllZip, list_any, zip}
+use Rattle.std.proofs.Common.{◌≡◌, ℕ, zero, suc, ◌<◌, ◌≤◌, true, List, [], ◌∷◌, Option, Some, None, length, get_or, map, arith, refl, ap, sym, subst, ◌∙◌}
+use Rattle.std.specs.Prelude.{Contains, count_by, flat_map}
+use Rattle.std.specs.List.{list_any, zip}
 use Rattle.std.specs.Option.{option_and_then}
 use Rattle.std.proofs.lemmas.Bool.{eq-eqb, eqb-true}
-use Rattle.std.proofs.lemmas.List.{get_or-map, length-map}
 use Rattle.std.proofs.lemmas.List.Elements.{Contains-get_or}
 use Rattle.std.proofs.lemmas.List.Folds.{list_any_at}
 use Rattle.std.proofs.lemmas.List.Sums.{count_by-le-length}
 use Rattle.std.proofs.lemmas.Slice.Zip.{get_or-zip, length-zip}
-use Rattle.ng_plan.specs.declared.step.Place.{Place}
-use Rattle.ng_plan.specs.Sound.{IsHandedOff, IsIn, IsNumbered, IsSound, op_in, op_of_log}
-use Rattle.ng_post.specs.declared.boxes.Boxes.{Boxes}
-use Rattle.ng_post.specs.declared.boxes.Door.{Door}
-use Rattle.ng_post.specs.Doors.{AreDoorsOf, IsDoorOf}
-use Rattle.ng_post.specs.Ends.{AreCollected, AreHandedOver, ArePostedOnce, is_of, is_sent}
+use Rattle.ng_plan.specs.Sound.{op_of_log}
+use Rattle.ng_post.specs.Ends.{is_of}
 use Rattle.ng_post.specs.Letters.{Pair}
-use Rattle.ng_space.specs.Callers.{Caller, fresh_caller}
-use Rattle.ng_space.specs.Closings.{IsEven}
-use Rattle.ng_space.specs.Leaving.{AreFramed}
 use Rattle.ng_terms.specs.declared.plan.Op.{Op}
 use Rattle.ng_terms.specs.declared.plan.Op.TheVariants.{Make}
 use Rattle.ng_terms.specs.declared.plan.Origin.{Origin}
-use Rattle.ng_terms.specs.declared.plan.Origin.TheVariants.{Own, Claim, Skip}
-use Rattle.ng_terms.specs.declared.plan.Plan.{Plan}
+use Rattle.ng_terms.specs.declared.plan.Origin.TheVariants.{Claim}
 use Rattle.ng_terms.specs.declared.reply.Reply.{Reply}
 use Rattle.ng_terms.specs.declared.reply.Reply.TheVariants.{Absent}
-use Rattle.ng_terms.specs.Calls.{Fits, FitsOp, handed_as, origin_of, source_of, standing, standing_of_number}
-use Rattle.ng_replay.specs.Books.{AreAllFramed, AreBooks, hand_at}
-use Rattle.ng_replay.specs.Crews.{HaveDone}
-use Rattle.ng_replay.specs.Serial.{reply_at, stands_at}
-use Rattle.ng_replay.specs.Works.{AreDone, blocks_among, claimed_by, collected_as, collected_for, posted_for, posted_of, source_by}
-use Rattle.ng_replay.specs.declared.worker.Worker.{Worker}
-use Rattle.ng_replay.proofs.FlatLemmas.{Contains-flat_map, IsFound, Passes, count-once, count-some, element, find-there, flat_map-place, map-place, sum-same}
+use Rattle.ng_terms.specs.Calls.{handed_as, origin_of, standing}
+use Rattle.ng_replay.specs.Works.{claimed_by, collected_as, collected_for, posted_for, posted_of}
+use Rattle.ng_replay.proofs.FlatLemmas.{Contains-flat_map, IsFound, Passes, count-once, count-some, find-there, flat_map-place, map-place}
 use Rattle.ng_replay.proofs.FoundLemmas.{zip-Contains}
-use Rattle.ng_replay.proofs.HandLemmas.{total-sum}
 use Rattle.ng_replay.proofs.RowLemmas.{get_or-there}
-use Rattle.ng_replay.proofs.ServedLemmas.{AllZip-from_places}
-use Rattle.ng_replay.proofs.SourceLemmas.{standing_of_number-maker}
 
 -- ---- one log
 -- what stands for an op was posted under its number

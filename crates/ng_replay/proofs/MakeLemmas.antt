@@ -1,8 +1,8 @@
 -- What a request tells of a make under the mode.
-use Rattle.std.proofs.Common.{◌≡◌, ℕ, ◌-◌, ◌*◌, ◌%◌, ◌^◌, ◌++◌, ◌∷◌, [], Option, Some, None, Result, Ok, Err, IfErr, IfOk, IfSome, arith, refl, ap, ⊎_elim}
+use Rattle.std.proofs.Common.{◌≡◌, ℕ, ◌-◌, ◌*◌, ◌%◌, ◌^◌, ◌∷◌, [], Some, None, Result, Ok, Err, IfErr, IfOk, IfSome, arith, refl, ap, ⊎_elim}
 use Rattle.std.specs.Prelude.{◌↔◌, bit_and}
 use Rattle.std.proofs.lemmas.Bool.{cases_eq}
-use Rattle.ng_heap.specs.Keeps.{IsFresh, KeepsFrames}
+use Rattle.ng_heap.specs.Keeps.{IsFresh}
 use Rattle.ng_bytes.specs.Contents.{AreZero}
 use Rattle.ng_space.specs.Blocks.{BlockToken, HasFramed, OfSlot}
 use Rattle.ng_space.specs.Callers.{Caller}

@@ -1,5 +1,5 @@
 -- What a resize tells of an op.
-use Rattle.std.proofs.Common.{◌≡◌, ◌+◌, ◌≤◌, ℕ, Bool, true, false, cond, eqb, List, [], ◌∷◌, ◌++◌, length, Option, Some, None, Result, Ok, Err, IfErr, IfOk, arith, refl, ap, sym, subst, ⊎_elim, ◌∙◌}
+use Rattle.std.proofs.Common.{◌≡◌, ◌+◌, ◌≤◌, ℕ, Bool, true, false, cond, eqb, List, [], ◌∷◌, ◌++◌, length, Some, None, Result, Ok, Err, IfErr, IfOk, arith, refl, ap, sym, subst, ⊎_elim, ◌∙◌}
 use Rattle.std.proofs.lemmas.Bool.{cases_Bool, eqb-true}
 use Rattle.std.specs.Prelude.{◌↔◌}
 use Rattle.ng_group.specs.Hands.{IsApart}
@@ -10,7 +10,6 @@ use Rattle.ng_space.specs.Leaving.{KeepsRest}
 use Rattle.ng_terms.specs.declared.entry.Entry.{Entry}
 use Rattle.ng_terms.specs.declared.entry.Entry.TheVariants as entry
 use Rattle.ng_terms.specs.declared.reply.Reply.{Reply}
-use Rattle.ng_terms.specs.declared.reply.Reply.TheVariants as reply
 use Rattle.ng_terms.specs.Heap.{IsTooLarge}
 use Rattle.ng_replay.specs.Serving.{IsReplyTo, Resizes, left_of}
 use Rattle.ng_resize.specs.Refusals.{EnteredAll, realloc_entries, refusal_of}

@@ -1,5 +1,5 @@
 -- What a resize tells of where a block stands then, and of its bytes.
-use Rattle.std.proofs.Common.{◌≡◌, ◌≢◌, ◌⊎◌, ◌<◌, ℕ, min, Option, Some, Result, Ok, Err, IfOk, ap, ⊎_elim, inl, inr}
+use Rattle.std.proofs.Common.{◌≡◌, ◌≢◌, ◌⊎◌, ◌<◌, ℕ, min, Some, Result, Ok, Err, IfOk, ap, ⊎_elim, inl, inr}
 use Rattle.std.specs.Prelude.{◌↔◌}
 use Rattle.ng_space.specs.Blocks.{BlockToken, HasFramed, OfSlot}
 use Rattle.ng_space.specs.Callers.{Caller}

@@ -1,9 +1,9 @@
 -- What a worker has done, one op on.
-use Rattle.std.proofs.Common.{◌≡◌, ◌≢◌, ℕ, zero, suc, ◌+◌, ◌*◌, ◌<◌, ◌≤◌, Bool, true, false, List, [], ◌∷◌, ◌++◌, Option, Some, None, length, get_or, map, take, arith, refl, ap, sym, subst, ⊎_elim, ◌∙◌}
-use Rattle.std.specs.Prelude.{Contains, count_by, find, flat_map}
+use Rattle.std.proofs.Common.{◌≡◌, ◌≢◌, ℕ, zero, suc, ◌+◌, ◌<◌, ◌≤◌, false, List, [], ◌∷◌, ◌++◌, Option, Some, None, length, get_or, map, take, arith, refl, ap, sym, subst, ⊎_elim, ◌∙◌}
+use Rattle.std.specs.Prelude.{Contains, find, flat_map}
 use Rattle.std.specs.List.{zip}
 use Rattle.std.specs.Option.{option_and_then}
-use Rattle.std.proofs.lemmas.Bool.{cases_Bool, cases_eq, cases_lt, eq-eqb, eqb-true, ne_eqb}
+use Rattle.std.proofs.lemmas.Bool.{cases_lt, eq-eqb, ne_eqb}
 use Rattle.std.proofs.lemmas.List.{append-nil, get_or-take, get_or_append_left, get_or_push, length_push, length-append, length-take-le, map-append, take_more}
 use Rattle.std.proofs.lemmas.List.Concat.{flat_map-append}
 use Rattle.std.proofs.lemmas.List.Sums.{sum_by-append}
@@ -12,7 +12,7 @@ use Rattle.ng_plan.specs.Sound.{op_of_log}
 use Rattle.ng_post.specs.declared.boxes.Boxes.{Boxes}
 use Rattle.ng_post.specs.declared.boxes.Door.{Door}
 use Rattle.ng_post.specs.Doors.{IsDoorOf}
-use Rattle.ng_post.specs.Ends.{is_of, is_sent}
+use Rattle.ng_post.specs.Ends.{is_of}
 use Rattle.ng_post.specs.Letters.{Pair}
 use Rattle.ng_space.specs.Callers.{Caller}
 use Rattle.ng_terms.specs.declared.plan.Op.{Op}

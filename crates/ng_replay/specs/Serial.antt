@@ -15,7 +15,6 @@ use Rattle.ng_terms.specs.declared.plan.Plan.{Plan}
 use Rattle.ng_terms.specs.declared.reply.Mode.{Mode}
 use Rattle.ng_terms.specs.declared.reply.Reply.{Reply}
 use Rattle.ng_terms.specs.declared.reply.Reply.TheVariants.{Absent}
-use Rattle.ng_terms.specs.Accounts.{IsMostBound}
 use Rattle.ng_terms.specs.Calls.{FitsOp, handed_as, origin_of, source_of, standing}
 use Rattle.ng_replay.specs.Books.{AreAllFramed, AreBooks, hand_at}
 use Rattle.ng_replay.specs.Serving.{IsApartFrom, at_of}

@@ -1,7 +1,6 @@
-use Rattle.std.proofs.Common.{◌≡◌, ◌*◌, ap, arith, inl, inr, refl, sym}
+use Rattle.std.proofs.Common.{◌*◌, ap, arith, inl, inr, refl, sym}
 use Rattle.std.specs.Prelude.{unwrap_or}
 use Rattle.ng_frame.specs.Puts.{asked_for}
-use Rattle.ng_heap.specs.Making.{IsMade}
 use Rattle.ng_replay.proofs.MakeLemmas.{Makes-aligned, Makes-requested, one-zeroed, zeroed-given}
 use Rattle.ng_replay.proofs.beside.make.Goals as goal
 

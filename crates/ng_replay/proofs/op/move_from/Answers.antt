@@ -1,5 +1,3 @@
-use Rattle.std.proofs.Common.{◌≡◌, subst}
-use Rattle.ng_replay.specs.Serving.{IsReplyTo}
 use Rattle.ng_replay.proofs.ResizeLemmas.{Resizes-given}
 use Rattle.ng_replay.proofs.StayLemmas.{kept-told, stays-told, told_where}
 use Rattle.ng_replay.proofs.op.move_from.Goals as goal

@@ -2,11 +2,9 @@ use Rattle.std.proofs.Common.{◌≡◌, None, Some, ap, sym, ◌∙◌}
 use Rattle.ng_post.specs.Letters.{address_of}
 use Rattle.ng_replay.proofs.MoveLemmas.{HasFramed-kept}
 use Rattle.ng_replay.proofs.RowLemmas.{AreApartFrom-fresh, AreApartFrom-taken, AreHeld-kept, AreHeld-taken, get_or-there}
-use Rattle.ng_replay.specs.Serial.{places_of}
 use Rattle.ng_space.specs.Blocks.{BlockToken}
 use Rattle.ng_terms.specs.Calls.{origin_of}
 use Rattle.ng_terms.specs.declared.plan.Origin.TheVariants.{Claim}
-use Rattle.ng_replay.specs.Works.{collected_for, source_in}
 use Rattle.ng_replay.proofs.passing.take_source.Goals as goal
 
 pub returns-in-Own-clause-apart : goal.returns-in-Own-clause-apart

@@ -1,4 +1,4 @@
-use Rattle.std.proofs.Common.{arith, rules, ◌∙◌, ◌≡◌, ◌<◌, length, slice_index_or}
+use Rattle.std.proofs.Common.{arith, rules, ◌∙◌, slice_index_or}
 use Rattle.ng_replay.specs.Crews.{HasDone}
 use Rattle.ng_replay.proofs.worker.work_all.Goals as goal
 

@@ -1,4 +1,4 @@
-use Rattle.std.proofs.Common.{arith, ◌∙◌, sym, ap}
+use Rattle.std.proofs.Common.{arith, ap}
 use Rattle.ng_replay.proofs.CrewLemmas.{IsCrewFor-made}
 use Rattle.ng_replay.proofs.crew.Crew.open.Goals as goal
 
