@@ -1,0 +1,4 @@
+pub mod DrawLemmas
+pub mod LimitLemmas
+pub mod StepLemmas
+pub mod TakeLemmas
