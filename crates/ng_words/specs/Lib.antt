@@ -1,0 +1,6 @@
+pub mod Verbs
+pub mod Apps
+pub mod Texts
+pub mod Lists
+pub mod Statuses
+pub mod Words
