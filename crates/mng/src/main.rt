@@ -1,50 +1,25 @@
 //! `mng` replays allocation logs through a heap.
 #![tactic(auto)]
 
-mod asked;
-mod beside;
 mod choices;
-mod closed;
-#[cfg(test)]
-mod drill_tests;
-mod drilling;
-mod ending;
-mod fresh;
-mod numbers;
-mod prepare;
-mod replaying;
-#[cfg(test)]
-mod replaying_tests;
-mod run;
-mod scripting;
-mod status;
-#[cfg(test)]
-mod tests;
-mod tool;
-mod verb;
-mod words;
-#[cfg(test)]
-mod words_tests;
 
 use choices::{count, keep};
 use ng_mapper::FirstFit;
 use ng_mtrace::{Input, Output};
 use ng_policy::Policy;
+use ng_quota::Quota;
 use ng_replay::Open;
-use replaying::replay;
-use status::{Status, status_line};
+use ng_tool::{replay, tool};
+use ng_words::{Status, Verb, setup, status_line};
 use std::alloc::{Alloc, Global};
 use std::env::{self, Env};
 use std::io::{self, ErrorKind, Print};
 use std::process::ExitCode;
 use std::sync::Wait;
 use std::thread::Threads;
-use tool::tool;
-use verb::Verb;
-use words::setup;
 
 fn main(rt: HostRuntime) -> ExitCode {
-    let status = replayed(&rt);
+    let status = done(&rt);
     if let Ok(line) = status_line(rt.alloc(), &status) {
         // The exit status tells how the run ended, also where its line can't be printed.
         let _ = print!(&rt; "{line}");
@@ -53,9 +28,7 @@ fn main(rt: HostRuntime) -> ExitCode {
 }
 
 /// Does what the words ask, over the standard streams.
-fn replayed<R: Alloc<A = Global> + Env + io::Input + Print + Threads + Wait + Sync>(
-    rt: &R,
-) -> Status {
+fn done<R: Alloc<A = Global> + Env + io::Input + Print + Threads + Wait + Sync>(rt: &R) -> Status {
     let alloc = rt.alloc();
     let words = match words_of(rt) {
         Ok(words) => words,
@@ -67,9 +40,10 @@ fn replayed<R: Alloc<A = Global> + Env + io::Input + Print + Threads + Wait + Sy
         Ok(setup) => setup,
         Err(status) => return status,
     };
-    let Ok(mapper) = FirstFit::new(alloc, setup.pages, setup.refuse.into_vec()) else {
+    let Ok(space) = FirstFit::new(alloc, setup.pages, setup.refuse.into_vec()) else {
         return Status::Host;
     };
+    let mapper = Quota::new(space, setup.quota);
     let mut input = Input::new(rt.reader());
     let mut output = Output::new(io::writer(rt));
     let policy = Policy::new(count, keep);

@@ -1,6 +1,0 @@
-use Rattle.mng.proofs.DrillLemmas.{ends_drill_opened}
-use Rattle.mng.proofs.drilling.run_script.Goals as goal
-
-pub returns-clause-ends : goal.returns-clause-ends
-returns-clause-ends g c = λ late.
-    ends_drill_opened _ g.N.Name.facts _ _ _ _ _ _ _ _ _ c.requires.named.mapper c.requires.named.most c.ended.ensures.ends

@@ -1,8 +1,0 @@
-use Rattle.mng.proofs.InputLemmas.{few-logs, few-ops}
-use Rattle.mng.proofs.prepare.planned_input.Goals as goal
-
-pub returns-in-Ok-plan-clause-few : goal.returns-in-Ok-plan-clause-few
-returns-in-Ok-plan-clause-few g c = few-logs _ _ c.in-Ok-plan.ensures.plan c.in-Ok.ensures.limits
-
-pub returns-in-Ok-plan-clause-short : goal.returns-in-Ok-plan-clause-short
-returns-in-Ok-plan-clause-short g c = few-ops _ _ c.in-Ok-plan.ensures.plan c.in-Ok.ensures.limits

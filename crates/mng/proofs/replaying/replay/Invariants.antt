@@ -1,6 +1,0 @@
-use Rattle.std.specs.Prelude.{length}
-use Rattle.mng.proofs.replaying.replay.Given as goal
-
--- the name of the heap whose memory was just taken
-abbrev pub ghosts-run_beside : goal.ghosts-run_beside
-ghosts-run_beside g a = record { facts = record { table = a.fresh.blank.table; start = a.fresh.blank.start; hands = length a.prepared.plan.logs; most = (g.M.Mapper.refused a.mapper).most } }
