@@ -30,3 +30,9 @@ def mode_of(words):
     """How a case's makes are done."""
     align = option(words, '--align', None)
     return Mode(None if align is None else int(align, 0), '--zero' in words)
+
+
+def quota_of(words):
+    """The most live pages of a case, or None where its words don't tell."""
+    quota = option(words, '--quota', None)
+    return None if quota is None else int(quota, 0)

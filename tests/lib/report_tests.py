@@ -1,34 +1,34 @@
 """Tests of the checks that tests/stress makes of a report, by stored reports and by wrong ones."""
 import os
 
-from cases import CASES, mode_of, option, read, wanted, words_of
+from cases import CASES, mode_of, option, quota_of, read, wanted, words_of
 from following import Mode
 from reports import Fault, check
 
 
-def is_report(log, text, pages=4096, mode=Mode()):
+def is_report(log, text, pages=4096, mode=Mode(), quota=None):
     """Whether the checks of tests/stress let it pass."""
     try:
-        check(log, text, pages, mode=mode)
+        check(log, text, pages, mode=mode, quota=quota)
     except Fault:
         return False
     return True
 
 
 def stored_reports():
-    """Each case with calls that ends with 0: its name, its log, its report, the pages of its space, and its mode."""
+    """Each case with calls that ends with 0: its name, its log, its report, the pages of its space, its mode, and its quota."""
     for case in sorted(os.listdir(CASES)):
         words, folder = words_of(case), os.path.join(CASES, case)
         if '--calls' in words and not os.path.exists(os.path.join(folder, 'status')):
             log, report = read(os.path.join(folder, 'in'), 'rb'), read(os.path.join(folder, 'out'))
-            yield case, log, report, int(option(words, '--pages', '4096'), 0), mode_of(words)
+            yield case, log, report, int(option(words, '--pages', '4096'), 0), mode_of(words), quota_of(words)
 
 
 def stress_takes(_):
     """Each stored report is one that a replay may give."""
     reports = list(stored_reports())
-    for case, log, report, pages, mode in reports:
-        wanted(is_report(log, report, pages, mode), True, f'{case} is let pass')
+    for case, log, report, pages, mode, quota in reports:
+        wanted(is_report(log, report, pages, mode, quota), True, f'{case} is let pass')
     wanted(len(reports) > 50, True, 'many reports were tried')
 
 
@@ -53,10 +53,10 @@ def wrong_reports(report):
 def stress_refuses(_):
     """No report passes with a line dropped, doubled, or changed."""
     tried = 0
-    for case, log, report, pages, mode in stored_reports():
+    for case, log, report, pages, mode, quota in stored_reports():
         if len(report) < 2000:
             for what, wrong in wrong_reports(report):
-                wanted(is_report(log, wrong, pages, mode), False, f'{case} with {what}')
+                wanted(is_report(log, wrong, pages, mode, quota), False, f'{case} with {what}')
                 tried += 1
     wanted(tried > 2000, True, 'many changes were tried')
 

@@ -117,8 +117,10 @@ def overlapping(blocks):
 class Report:
     """The replies of a report, op by op in the plan's order."""
 
-    def __init__(self, text, logs, pages, mode):
+    def __init__(self, text, logs, pages, mode, quota):
         self.pages, self.mode = pages, mode
+        # A space gives all of its pages but the first.
+        self.most = pages - 1 if quota is None else min(quota, pages - 1)
         self.lines, self.counts = [deque() for _ in logs], []
         self.order = Order(len(logs))
         self.blocks, self.standing, self.ends = [], [], []
@@ -220,8 +222,8 @@ class Report:
         if self.counts != [f'{name} {self.tally[name]}' for name in COUNTS[:-1]]:
             raise Fault(f'the counts {self.counts} where the replies make {dict(self.tally)}')
         least = len({at * UNIT // PAGE for block in left for at in (block.units.start, block.units.stop - 1)})
-        if not (re.fullmatch('pages (0|[1-9][0-9]*)', told) and least <= int(told.split()[1]) < self.pages):
-            raise Fault(f'{told} with blocks left on {least} pages, in a space of {self.pages}')
+        if not (re.fullmatch('pages (0|[1-9][0-9]*)', told) and least <= int(told.split()[1]) <= self.most):
+            raise Fault(f'{told} with blocks left on {least} pages, where {self.most} may be live')
         numbers = sorted(number for row in self.numbers for number in row)
         if numbers != list(range(1, len(numbers) + 1)) or any(row != sorted(row) for row in self.numbers):
             raise Fault(f'the numbers of refusals are {self.numbers}')
@@ -236,11 +238,11 @@ class Report:
             pairs = [pair for pair in pairs if not self.order.parts(*pair)]
 
 
-def check(log, text, pages=4096, may_refuse=True, mode=Mode()):
+def check(log, text, pages=4096, may_refuse=True, mode=Mode(), quota=None):
     """Raises Fault where the output can't be a report of replay on these logs. The counts of ops, hand-offs and refusals."""
     logs = read_logs(log)
     ops = ops_of(logs)
-    report = Report(text, logs, pages, mode)
+    report = Report(text, logs, pages, mode, quota)
     for op in ops:
         report.do(op, None if op.source is None else ops[op.source].log)
     report.check_counts(may_refuse)

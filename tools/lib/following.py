@@ -39,6 +39,7 @@ def arguments(description):
     parser.add_argument('log', metavar='LOG')
     parser.add_argument('--pages', type=lambda text: int(text, 0), default=4096, help='pages of the space, as for mng')
     parser.add_argument('--refuse', default='', help='map calls to refuse, as for mng')
+    parser.add_argument('--quota', type=lambda text: int(text, 0), help='the most live pages, as for mng')
     parser.add_argument('--report', metavar='FILE', help='a stored output of mng serial --calls on LOG, in place of a run')
     return parser
 
@@ -56,6 +57,7 @@ def report_of(asked):
         with open_log(asked.report) as stored:
             return stored.read().decode('ascii', 'replace').splitlines()
     options = ['--pages', str(asked.pages)] + (['--refuse', asked.refuse] if asked.refuse else [])
+    options += [] if asked.quota is None else ['--quota', str(asked.quota)]
     with open_log(asked.log) as log:
         try:
             done = subprocess.run([PROGRAM, 'serial', '--calls', *options], stdin=log, stdout=subprocess.PIPE, text=True,
@@ -69,7 +71,7 @@ def report_of(asked):
 
 
 def heap_of(asked, policy=None):
-    return Heap(asked.pages, [int(call, 0) for call in asked.refuse.split(',') if call], policy)
+    return Heap(asked.pages, [int(call, 0) for call in asked.refuse.split(',') if call], policy, asked.quota)
 
 
 def ops_in(path):

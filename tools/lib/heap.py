@@ -22,16 +22,21 @@ class Refused(Exception):
 
 
 class Mapper:
-    """Gives the lowest run of pages that is free. It refuses where there is none, and the calls of these numbers."""
+    """Gives the lowest run of pages that is free. It refuses where there is none, and the calls of these numbers.
 
-    def __init__(self, pages, refused=()):
+    A call by which more pages than the quota would be live is refused first, and has no number."""
+
+    def __init__(self, pages, refused=(), quota=None):
+        self.quota = pages if quota is None else quota
         self.used = bytearray(b'\1') + bytearray(pages - 1)
         self.refused = set(refused)
         self.calls = self.refusals = self.live = 0
 
     def map(self, pages):
-        self.calls += 1
-        is_refused = self.calls in self.refused or pages > len(self.used)
+        is_refused = self.live + pages > self.quota
+        if not is_refused:
+            self.calls += 1
+            is_refused = self.calls in self.refused or pages > len(self.used)
         page = -1 if is_refused else self.used.find(bytes(pages))
         if page < 0:
             self.refusals += 1
@@ -319,8 +324,8 @@ def cycle(found, slack, counter):
 class Heap:
     """Blocks in the core's slots."""
 
-    def __init__(self, pages=4096, refused=(), policy=None):
-        self.mapper = Mapper(pages, refused)
+    def __init__(self, pages=4096, refused=(), policy=None, quota=None):
+        self.mapper = Mapper(pages, refused, quota)
         self.core = Core(self.mapper, policy or Policy())
 
     def malloc(self, size, align=UNIT):
