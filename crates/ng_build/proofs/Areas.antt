@@ -17,14 +17,14 @@ use Rattle.ng_build.proofs.Cells.{builds_run, idle_run_only, only_both, only_bui
 
 -- ---- a run goes
 module _ (v u : View) (base pages : ℕ) (idle : IsIdleRun v base pages) where
-  pub builds_all : BuildsAll v base (base + 4 * (1024 * pages))
-  builds_all b al low high = builds_run v base pages b idle al low (omega arith)
+  pub builds_all : BuildsAll v base (base + 4096 * pages)
+  builds_all b al low high = builds_run v base pages b idle al low high
 
-  module _ (only : OnlyCells v u) (zero : AreZero u base (base + 4 * (1024 * pages))) where
+  module _ (only : OnlyCells v u) (zero : AreZero u base (base + 4096 * pages)) where
     pub cleared : IsClearedRun u base pages
     cleared =
         let still = idle_run_only v u base pages only idle in
-        record { noted = still.noted; empty = still.empty; clear = λ b al inside. zero b al inside.0 (let high = inside.1 in omega arith) }
+        record { noted = still.noted; empty = still.empty; clear = λ b al inside. zero b al inside.0 inside.1 }
 
     module _ (w : View) (told : NotesRun u base pages false w) where
       pub gone_view : OnlyCells (without_run v base) w
@@ -35,12 +35,12 @@ module _ (v u : View) (base pages : ℕ) (idle : IsIdleRun v base pages) where
           subst (OnlyCells (without_run v base)) (sym e)
           (record { view = refl; came = only.came ++ (0, told.found) ∷ []; readings = ap (λ rs. rs ++ (0, told.found) ∷ []) only.readings ∙ append_assoc v.readings only.came ((0, told.found) ∷ []) })
 
-      pub gone_reads : ReadsWithin v u base (base + 4 * (1024 * pages)) → ReadsWithin v w base (base + 4096 * pages)
-      gone_reads reads = reads_then v u w base (base + 4 * (1024 * pages)) (base + 4096 * pages) 0 told.found (omega arith) reads (ap (λ (x : View). x.readings) told.view) (inl refl)
+      pub gone_reads : ReadsWithin v u base (base + 4096 * pages) → ReadsWithin v w base (base + 4096 * pages)
+      gone_reads reads = reads_then v u w base (base + 4096 * pages) (base + 4096 * pages) 0 told.found (omega arith) reads (ap (λ (x : View). x.readings) told.view) (inl refl)
 
-      pub gone_kept : KeepsOutside v u base (base + 4 * (1024 * pages)) → KeepsOutside v w base (base + 4096 * pages)
+      pub gone_kept : KeepsOutside v u base (base + 4096 * pages) → KeepsOutside v w base (base + 4096 * pages)
       gone_kept kept b x out s = subst (λ (y : View). Sees y b x) (sym told.view)
-          (off_else base (base + 4096 * pages) b x u.desk.cells out (kept b x (⊎_elim (λ (l : b < base). inl l) (λ (l : base + 4096 * pages ≤ b). inr (omega arith)) out) s))
+          (off_else base (base + 4096 * pages) b x u.desk.cells out (kept b x out s))
 
 -- ---- a run becomes an area
 idle_run : (v : View) (base pages : ℕ) → IsClearedRun v base pages → IsIdleRun v base pages

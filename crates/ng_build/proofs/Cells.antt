@@ -61,10 +61,10 @@ abbrev IsWithin : ℕ → ℕ → List (ℕ × ℕ) → Type 0
 IsWithin from to words = (word : ℕ × ℕ) → Among {A = ℕ × ℕ} word words → (word.0 ≡ 0) ⊎ ((from ≤ word.0) × (word.0 < to))
 
 -- also in a greater one
-pub within_more : (from to top : ℕ) (words : List (ℕ × ℕ)) → to ≤ top → IsWithin from to words → IsWithin from top words
-within_more from to top words less known word there = ⊎_elim
+pub within_more : (from to bottom top : ℕ) (words : List (ℕ × ℕ)) → bottom ≤ from → to ≤ top → IsWithin from to words → IsWithin bottom top words
+within_more from to bottom top words low less known word there = ⊎_elim
     (λ (none : word.0 ≡ 0). inl none)
-    (λ (range : (from ≤ word.0) × (word.0 < to)). inr (range.0, omega (arith, range.1)))
+    (λ (range : (from ≤ word.0) × (word.0 < to)). inr (omega (arith, range.0), omega (arith, range.1)))
     (known word there)
 
 -- and one word more is
@@ -74,11 +74,17 @@ within_then from to [] a x known last word (inr there) = elim there [ ]
 within_then from to (y ∷ words) a x known last word (inl e) = known word (inl e)
 within_then from to (y ∷ words) a x known last word (inr there) = within_then from to words a x (λ other s. known other (inr s)) last word there
 
+-- and more words of that range are
+pub within_both : (from to : ℕ) (words more : List (ℕ × ℕ)) → IsWithin from to words → IsWithin from to more → IsWithin from to (words ++ more)
+within_both from to [] more known others word there = others word there
+within_both from to (y ∷ words) more known others word (inl e) = known word (inl e)
+within_both from to (y ∷ words) more known others word (inr there) = within_both from to words more (λ other s. known other (inr s)) others word there
+
 pub reads_then : (v w u : View) (from to top a x : ℕ) → to ≤ top → ReadsWithin v w from to → u.readings ≡ w.readings ++ (a, x) ∷ [] → (a ≡ 0) ⊎ ((from ≤ a) × (a < top)) → ReadsWithin v u from top
 reads_then v w u from to top a x less reads more last = record {
   words = reads.words ++ (a, x) ∷ [];
   readings = more ∙ ap (λ rs. rs ++ (a, x) ∷ []) reads.readings ∙ append_assoc v.readings reads.words ((a, x) ∷ []);
-  within = within_then from top reads.words a x (within_more from to top reads.words less reads.within) last;
+  within = within_then from top reads.words a x (within_more from to from top reads.words (omega arith) less reads.within) last;
 }
 
 -- ---- cells are cleared one by one
@@ -90,6 +96,32 @@ pub record Clears (v : View) (from to : ℕ) (w : View) : Type 0 where
 
 pub clears_none : (v : View) (from : ℕ) → Clears v from (from + 4 * 0) v
 clears_none v from = record { view = only_none v; zero = λ b al low high. absurd (omega arith); kept = λ b x out s. s; reads = record { words = []; readings = sym (append-nil v.readings); within = λ word there. elim there [ ] } }
+
+-- two ranges, one behind the other
+clears_both : (v w u : View) (from mid to : ℕ) → from ≤ mid → mid ≤ to → Clears v from mid w → Clears w mid to u → Clears v from to u
+clears_both v w u from mid to low high a b = record {
+  view = only_both v w u a.view b.view;
+  zero = λ c al above below. ⊎_elim
+      (λ (l : c < mid). b.kept c 0 (inl l) (a.zero c al above l))
+      (λ (l : mid ≤ c). b.zero c al l below)
+      (cases_lt c mid);
+  kept = λ c x out s. ⊎_elim
+      (λ (l : c < from). b.kept c x (inl (omega arith)) (a.kept c x (inl l) s))
+      (λ (l : to ≤ c). b.kept c x (inr l) (a.kept c x (inr (omega arith)) s))
+      out;
+  reads = record {
+    words = a.reads.words ++ b.reads.words;
+    readings = b.reads.readings ∙ ap (λ rs. rs ++ b.reads.words) a.reads.readings ∙ append_assoc v.readings a.reads.words b.reads.words;
+    within = within_both from to a.reads.words b.reads.words
+        (within_more from mid from to a.reads.words (omega arith) high a.reads.within)
+        (within_more mid to from to b.reads.words low (omega arith) b.reads.within);
+  };
+}
+
+-- one block of eight cells more
+pub clears_block : (v w u : View) (from k : ℕ) → Clears v from (from + 32 * k) w → Clears w (from + 32 * k) (from + 32 * k + 32) u → Clears v from (from + 32 * (k + 1)) u
+clears_block v w u from k before block =
+    subst (λ to. Clears v from to u) (omega arith) (clears_both v w u from (from + 32 * k) (from + 32 * k + 32) (omega arith) (omega arith) before block)
 
 -- one more cell is known to be 0, and of the others what was known still is
 one_more : (v w u : View) (from k x : ℕ) → from % 4 ≡ 0 → Clears v from (from + 4 * k) w → OnlyCells w u → u.readings ≡ w.readings ++ (from + 4 * k, x) ∷ [] → Sees u (from + 4 * k) 0 → ((b x : ℕ) → b ≢ from + 4 * k → Sees w b x → Sees u b x)

@@ -5,7 +5,7 @@ use Rattle.ng_rule.proofs.geometry.Lists.{find_among, find_edit, is_at-true}
 use Rattle.ng_view.specs.Blocks.{Knows}
 use Rattle.ng_view.specs.Lists.{edit, find, is_at, without}
 use Rattle.ng_view.specs.Places.{slot_start, stride}
-use Rattle.ng_view.specs.Steps.{forget, stored, wrote}
+use Rattle.ng_view.specs.Steps.{edited, forget, wrote}
 use Rattle.ng_view.specs.declared.view.Held.{Held}
 use Rattle.ng_view.specs.declared.view.View.{View}
 use Rattle.ng_view.specs.Stores.{FitsMotion, IsInMotion, Stores}
@@ -105,9 +105,9 @@ module _ (v : View) (m i base room : ℕ) (has : HasSlotAt v m i base room) (a :
   slot_fits x low = record { cell = cell; low = λ e. low (e ∙ sym has.begins) }
 
   module _ (w : View) (x : ℕ) (told : Stores v a x w) where
-    is : w ≡ stored v m i a x
+    is : w ≡ edited v m i a x
     unfolding cell
-    is = told.slot cell ∙ ap (λ n. stored v n h.place.index a x) at_meta ∙ ap (λ n. stored v m n a x) at_index
+    is = told.slot cell ∙ ap (λ n. edited v n h.place.index a x) at_meta ∙ ap (λ n. edited v m n a x) at_index
 
     found_then : find m i w.held ≡ Some (wrote a x h)
     found_then = ap (λ (y : View). find m i y.held) is ∙ find_edit m i (wrote a x) v.held h (λ y. refl) has.found

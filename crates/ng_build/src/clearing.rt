@@ -9,8 +9,11 @@ use ng_space::{LockSeat, Name, Space};
 /// The cells of a meta.
 const META_CELLS: u64 = 10;
 
-/// The cells of a page.
-const PAGE_CELLS: u64 = 1024;
+/// The cells of a block of a run: so few that the compiler loads each without a loop.
+const BLOCK_CELLS: u64 = 8;
+
+/// The blocks of a page.
+const PAGE_BLOCKS: u64 = 128;
 
 /// Stores 0 in those of these cells that aren't 0. The seat builds or clears each of them.
 pub fn clear_cells<N: Name>(space: &Space<N>, seat: &mut LockSeat<N>, from: u64, cells: u64)
@@ -51,6 +54,21 @@ pub fn drop_run<N: Name>(space: &Space<N>, seat: &mut LockSeat<N>, base: u64, pa
     ensures kept { KeepsOutside seat.old seat.new base (base + 4096 * pages) }
     ensures reads { ReadsWithin seat.old seat.new base (base + 4096 * pages) }
 {
-    clear_cells(space, seat, base, PAGE_CELLS * pages);
+    clear_pages(space, seat, base, pages);
     space.note_run(seat, base, pages, false);
+}
+
+// Makes all cells of these pages 0, as [`clear_cells`] does.
+fn clear_pages<N: Name>(space: &Space<N>, seat: &mut LockSeat<N>, base: u64, pages: u64)
+    requires whole { base % 4096 ≡ 0 }
+    requires inside { base + 4096 * pages ≤ 4096 * N.facts.start.pages }
+    requires builds { BuildsAll seat.old base (base + 4096 * pages) }
+    ensures view { OnlyCells seat.old seat.new }
+    ensures zero { AreZero seat.new base (base + 4096 * pages) }
+    ensures kept { KeepsOutside seat.old seat.new base (base + 4096 * pages) }
+    ensures reads { ReadsWithin seat.old seat.new base (base + 4096 * pages) }
+{
+    for k in 0..PAGE_BLOCKS * pages {
+        clear_cells(space, seat, base + 4 * BLOCK_CELLS * k, BLOCK_CELLS);
+    }
 }

@@ -30,7 +30,6 @@ use Rattle.ng_group.specs.Opening.{IsMostBounded}
 use Rattle.ng_group.specs.Serving.{HasServed}
 use Rattle.ng_group.specs.States.{IsResting, IsWorking, Resting, State, Working, ledger_of}
 use Rattle.ng_group.specs.Steps.{GoesOn, IsCalm, IsRefused}
-use Rattle.ng_group.proofs.RecursionLemmas.{place_of}
 use Rattle.ng_group.proofs.ServingLemmas.{member_place}
 
 -- ---- the seat's only slot
@@ -172,10 +171,6 @@ module _ {M P : Type 0} (start : Start) (span : M → Span) (runs : M → List m
 -- ---- the slot, of the views of a call's own parts
 module _ {M P : Type 0} (start : Start) (span : M → Span) (runs : M → List mapper.Run) (refused : M → Refusals) {s s' : State M P} (same : s ≡ s')
     (class bytes meta index : ℕ) where
-  pub slot_place : Working start span runs refused s' → HasServed class bytes s'.seat meta index → IsMetaPlace meta start.pages
-  slot_place works served =
-      place_of start (span s'.mapper) (runs s'.mapper) (refused s'.mapper) (ledger_of s') served.group meta works served.there served.of_meta
-
   module _ (served : HasServed class bytes s'.seat meta index) where
     pub slot_found : find meta index s.seat.held ≡ Some (in_motion served.group index)
     slot_found =

@@ -1,5 +1,4 @@
 pub mod AtLemmas
-pub mod AtTestLemmas
 pub mod ClearLemmas
 pub mod FreeLemmas
 pub mod PutLemmas
@@ -8,4 +7,3 @@ pub mod ReadLemmas
 pub mod SendLemmas
 pub mod SlotLemmas
 pub mod StayLemmas
-pub mod TestLemmas

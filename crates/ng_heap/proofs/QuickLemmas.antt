@@ -180,7 +180,7 @@ IsPassed Lost = Unit {0}
 
 pub passed : {X : Type 0} (answer : Quick X)
     → (answer ≡ Large) ⊎ (answer ≡ Idle) ⊎ (answer ≡ Bare) ⊎ ((tag : ℕ) × (answer ≡ Other tag)) ⊎ (answer ≡ Lost) → IsPassed answer
-passed answer (inl large) = subst IsPassed (sym large) tt
+passed answer (inl far) = subst IsPassed (sym far) tt
 passed answer (inr (inl idle)) = subst IsPassed (sym idle) tt
 passed answer (inr (inr (inl bare))) = subst IsPassed (sym bare) tt
 passed answer (inr (inr (inr (inl other)))) = subst IsPassed (sym other.1) tt
@@ -198,10 +198,10 @@ passed_reads n old Lost after is leaves = leaves
 
 -- and it isn't too large
 pub passed_small : {X : Type 0} (n : ℕ) (old : Caller) (answer : Quick X) (after : Caller) → IsPassed answer → HasQuickCause n old answer after → IsTooLarge 1 n 16 → ⊥
-passed_small n old (Given block) after is cause large = absurd is
-passed_small n old TooLarge after is cause large = absurd is
-passed_small n old Large after is cause large = below_large n cause.0 large
-passed_small n old Idle after is cause large = served_small n cause.loads.small large
-passed_small n old Bare after is cause large = served_small n cause.loads.small large
-passed_small n old (Other tag) after is cause large = served_small n cause.loads.small large
-passed_small n old Lost after is cause large = served_small n cause.loads.small large
+passed_small n old (Given block) after is cause far = absurd is
+passed_small n old TooLarge after is cause far = absurd is
+passed_small n old Large after is cause far = below_large n cause.0 far
+passed_small n old Idle after is cause far = served_small n cause.loads.small far
+passed_small n old Bare after is cause far = served_small n cause.loads.small far
+passed_small n old (Other tag) after is cause far = served_small n cause.loads.small far
+passed_small n old Lost after is cause far = served_small n cause.loads.small far

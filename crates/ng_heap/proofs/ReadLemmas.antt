@@ -17,7 +17,7 @@ use Rattle.ng_space.specs.Callers.{Caller}
 use Rattle.ng_space.specs.Leaving.{Entered, KeepsBook, KeepsSlots, Leaves, LeavesAll}
 use Rattle.ng_space.specs.Passed.{EntersNoMemory}
 use Rattle.ng_space.specs.Tokens.{Token}
-use Rattle.ng_space.proofs.Leaving.{stays_then}
+use Rattle.ng_space.proofs.Leaving.{nothing_stored, stays_then}
 use Rattle.ng_space.proofs.LeavingFrames.{all_leaves, leaves_all_then, leaves_then}
 use Rattle.ng_frame.proofs.Tokens.{block_stays, slot_stays}
 use Rattle.ng_group.specs.Hands.{AreSameSlots, GainsExcuse, GainsSlot, IsSameSlot, Learns}
@@ -66,6 +66,7 @@ learns_leaves v w learns = record {
     taken = ap (λ (u : View). u.taken) learns.view;
     more = learns.came.words;
     readings = learns.came.readings;
+    stored = nothing_stored v w (ap (λ (u : View). u.stores) learns.view);
   };
   each = same_each v.held w.held learns.slots;
 }

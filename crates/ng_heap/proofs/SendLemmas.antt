@@ -4,7 +4,7 @@ use Rattle.std.proofs.lemmas.Bool.{cases_eq}
 use Rattle.std.specs.Prelude.{Some}
 use Rattle.ng_space.specs.Leaving.{AreFramed, IsOther, KeepsOthers, KeepsRest, Leaves}
 use Rattle.ng_space.proofs.LeavingFrames.{known_frame, loaded_each}
-use Rattle.ng_space.proofs.Leaving.{learns_itself, loaded_others, not_at, others_then}
+use Rattle.ng_space.proofs.Leaving.{learns_itself, loaded_others, not_at, nothing_stored, others_then}
 use Rattle.ng_rule.proofs.geometry.Lists.{count_of-zero, find_among, is_at-true, total_by-among}
 use Rattle.ng_view.specs.Lists.{Among, count_of, find, is_at, total_by}
 use Rattle.ng_view.specs.Steps.{loaded, taken_in}
@@ -103,6 +103,7 @@ module _ (old mid new : Caller) (parcel : ParcelToken) (receives : Receives old 
     taken = ap (λ (v : View). v.taken) receives.loads ∙ ap (λ (v : View). v.taken) receives.joins;
     more = (0, receives.word) ∷ [];
     readings = ap (λ (v : View). v.readings) receives.loads ∙ ap (λ (v : View). v.readings ++ (0, receives.word) ∷ []) receives.joins;
+    stored = nothing_stored (took_one old.view) new.view (ap (λ (v : View). v.stores) receives.loads ∙ ap (λ (v : View). v.stores) receives.joins);
   }
 
   pub came_leaves : (block : BlockToken) (number : ℕ) → block ≡ taken_by parcel.block number → HasFramed mid block

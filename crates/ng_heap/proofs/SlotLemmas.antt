@@ -18,7 +18,7 @@ use Rattle.ng_view.specs.declared.view.Held.{Held}
 use Rattle.ng_view.specs.declared.view.View.{View}
 use Rattle.ng_space.specs.Leaving.{AreFramed, HasFrame, IsOther, KeepsAll, KeepsBook, KeepsOthers, KeepsRest, KeepsSlots, Learns, Leaves, LeavesAll}
 use Rattle.ng_space.proofs.LeavingFrames.{free_frame, held_each, learns_frame}
-use Rattle.ng_space.proofs.Leaving.{all_then, held_all, not_at}
+use Rattle.ng_space.proofs.Leaving.{all_then, held_all, not_at, nothing_stored}
 use Rattle.ng_frame.proofs.Tokens.{block_stays, live_apart}
 use Rattle.ng_space.specs.Blocks.{OfSlot, Serves}
 use Rattle.ng_space.specs.Callers.{Caller}
@@ -120,6 +120,7 @@ gained_rest slot v w gains =
       taken = ap (λ (u : View). u.taken) is;
       more = gains.learns.came.words;
       readings = gains.learns.came.readings;
+      stored = nothing_stored v w (ap (λ (u : View). u.stores) is);
     }
 
 pub gained_leaves : (slot : Token) (v w : View) → GainsSlot slot.meta slot.index v w → Leaves slot v w
@@ -259,6 +260,7 @@ refused_rest v u w number n excuse gains enters =
           ap (λ (x : View). x.readings) enters.view
           ∙ ap (λ (r : List (ℕ × ℕ)). r ++ (0, enters.found) ∷ []) gains.learns.came.readings
           ∙ append_assoc v.readings gains.learns.came.words ((0, enters.found) ∷ []);
+      stored = nothing_stored v w (ap (λ (x : View). x.stores) enters.view ∙ ap (λ (x : View). x.stores) is);
     }
 
 pub refused_leaves : (v u w : View) (number n excuse : ℕ) → GainsExcuse excuse v u → EntersNoMemory u number n excuse w → LeavesAll v w

@@ -4,4 +4,3 @@ pub mod Freeing
 pub mod Keeps
 pub mod Making
 pub mod Trying
-pub mod Tests

@@ -38,13 +38,13 @@ pub record IsMade (n alignment : ℕ) (before : Caller) (block : BlockToken) (af
   pub apart : (other : BlockToken) → HasBlock before other → other.at ≢ block.at
 
 -- the word in front of the slot's start was loaded, and by the low half that was found the block is where it belongs; since then
--- nothing of the view changed but the slot, the book and what was read
+-- nothing of the view changed but the slot, the book, what was read and what was stored, and each store came behind that load
 pub record IsPutBy (came : View) (block : BlockToken) (counter : ℕ) (after : Caller) : Type 0 where
   pub word : ℕ
   pub leaves : Leaves block.slot (loaded came (block.slot.start - 4) word) after.view
   pub given : OfSlot after block.slot (λ h. IsGiven h block.at block.len block.align (word % 4294967296) counter)
 
--- the slot came, and then the block was put into it
+-- the slot came, with no cell stored, and then the block was put into it
 pub record IsGivenNow (before : View) (block : BlockToken) (counter : ℕ) (after : Caller) : Type 0 where
   pub came : View
   pub gains : GainsSlot block.slot.meta block.slot.index before came

@@ -22,18 +22,3 @@ pub use ng_space::Parcel;
 pub use ng_terms::AllocRefusal;
 pub use quick::Quick;
 pub use shared::SharedHeap;
-
-#[cfg(test)]
-mod area_tests;
-#[cfg(test)]
-mod beside_tests;
-#[cfg(test)]
-mod content_tests;
-#[cfg(test)]
-mod lock_tests;
-#[cfg(test)]
-mod quick_tests;
-#[cfg(test)]
-mod shared_tests;
-#[cfg(test)]
-mod tests;

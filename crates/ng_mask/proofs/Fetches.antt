@@ -73,8 +73,8 @@ module _ (v u : View) (meta word : ℕ) (has : HasGroup v meta) (told : EmptiesA
     some_bit : 0 < word % 2 ^ 32
     some_bit = ⊎_elim (λ (some : 0 < word % 2 ^ 32). some) (λ (none : word % 2 ^ 32 ≤ 0). absurd (let z : word % 2 ^ 32 ≡ 0 = omega arith in let b : bit_at (word % 2 ^ 32) index ≡ 0 = ap (λ n. bit_at n index) z ∙ bit_at-zero index in let s = low.set in omega arith)) (cases_lt 0 (word % 2 ^ 32))
 
-    rest_back : 0 < rest → MayPutBack (read (avail_emptied v h word) (meta + 24) word) meta rest
-    rest_back more =
+    rest_back : MayPutBack (read (avail_emptied v h word) (meta + 24) word) meta rest
+    rest_back =
         let serving = (told.tells h has.there has.of_meta).serves some_bit in record {
           group = h;
           there = has.there;
@@ -82,14 +82,13 @@ module _ (v u : View) (meta word : ℕ) (has : HasGroup v meta) (told : EmptiesA
           plain = serving.plain;
           listed = subst (λ m. Among m v.desk.listed) has.of_meta serving.listed;
           held = subst (λ m. AreOut m (bits_of rest) (slots_of h word ++ v.held)) has.of_meta (part_is_out h v.held word rest (2 ^ index) splits);
-          some = more;
         }
 
     -- the others may be set again
     may_stock_rest : MayStock u meta rest
     may_stock_rest = record {
       live = emptied_lives;
-      slots = λ more. subst (λ (x : View). MayPutBack x meta rest) (sym at_group) (rest_back more);
+      slots = λ more. subst (λ (x : View). MayPutBack x meta rest) (sym at_group) rest_back;
       zero = λ more. emptied_bare;
     }
 

@@ -5,4 +5,3 @@ pub mod Serial
 pub mod Works
 pub mod Crews
 pub mod Caps
-pub mod Tests

@@ -22,8 +22,3 @@ pub use op::do_op;
 pub use room::Room;
 pub use threading::threads;
 pub use turns::serial;
-
-#[cfg(test)]
-mod tests;
-#[cfg(test)]
-mod threading_tests;

@@ -13,6 +13,3 @@ pub use aligning::aligned_in;
 pub use refusal::{AlignRefusal, ResizeRefusal};
 pub use resizing::realloc_in;
 pub use sharing::{aligned_alloc, realloc};
-
-#[cfg(test)]
-mod tests;

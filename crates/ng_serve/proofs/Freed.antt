@@ -73,7 +73,6 @@ module _ (v u : View) (meta upto taken : ℕ) (has : HasGroup v meta) (takes : T
       listed = subst (Among meta) (sym (changes_listed v u meta changes)) (subst (λ m. Among m v.desk.listed) has.of_meta serve.listed);
       held = subst (AreOut meta (bits_of part)) (sym (takes.slots has.group has.there has.of_meta))
           (subst (λ m. AreOut m (bits_of part) (slots_of has.group taken ++ v.held)) has.of_meta (part_is_out has.group v.held taken part left splits));
-      some = more;
     };
     zero = λ more. noted bare;
   }

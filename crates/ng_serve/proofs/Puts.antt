@@ -55,7 +55,6 @@ may_put_slot v meta index served slot = subst (MayPutBack v meta) (sym (is_pow i
   plain = served.plain;
   listed = served.listed;
   held = subst (λ (is : List ℕ). AreOut meta is v.held) (sym (bits_of-pow index slot.few)) ((slot.slot, slot.found, slot.bare), tt);
-  some = pow_pos index;
 })
 
 pub puts_slot : (v w : View) (meta index : ℕ) → HasBare v.held meta index → PutsBits v meta (one_bit index) w → PutsSlot v meta index w
@@ -84,15 +83,14 @@ still_served v w meta changes served = record {
   listed = subst (Among meta) (sym (changes_listed v w meta changes)) served.listed;
 }
 
-may_put : (v : View) (meta bits : ℕ) → IsServed v meta → AreOut meta (bits_of bits) v.held → 0 < bits → MayPutBack v meta bits
-may_put v meta bits served out some = record {
+may_put : (v : View) (meta bits : ℕ) → IsServed v meta → AreOut meta (bits_of bits) v.held → MayPutBack v meta bits
+may_put v meta bits served out = record {
   group = served.group;
   there = served.there;
   of_meta = served.of_meta;
   plain = served.plain;
   listed = served.listed;
   held = out;
-  some = some;
 }
 
 -- ---- captured slots go back
@@ -100,7 +98,6 @@ module _ (v u t : View) (meta avail freed index : ℕ) (served : IsServed v meta
   pub may_put_freed : 0 < freed → MayPutBack v meta freed
   may_put_freed some = may_put v meta freed served
       (subst (AreOut meta (bits_of freed)) (sym captured.held) (front_out captured.group meta freed (slots_of captured.group avail ++ captured.before) captured.of_meta))
-      some
 
   module _ (puts : PutsBits v meta freed u) where
     after_freed : (c : HasCaptured v meta avail freed index) → u.held ≡ slots_of c.group avail ++ c.before
@@ -115,7 +112,7 @@ module _ (v u t : View) (meta avail freed index : ℕ) (served : IsServed v meta
     pub may_stock_avail : MayStock u meta avail
     may_stock_avail = record {
       live = record { group = served.group; there = there_freed; of_meta = served.of_meta };
-      slots = λ some. may_put u meta avail served_freed (subst (AreOut meta (bits_of avail)) (sym (after_freed captured)) (front_out captured.group meta avail captured.before captured.of_meta)) some;
+      slots = λ some. may_put u meta avail served_freed (subst (AreOut meta (bits_of avail)) (sym (after_freed captured)) (front_out captured.group meta avail captured.before captured.of_meta));
       zero = λ some. subst (Among meta) (sym puts.avail) bare;
     }
 

@@ -18,18 +18,18 @@ module _ (facts : Facts) (s t : Seat (Unit {0}) View) (shelf : List book.Shown) 
   empties_stays meta n has told =
       let g = has.group in
       lock_stays facts s t shelf room (read (avail_emptied s.me.0 g n) (meta + 24) n) is same_table same_slots (told.view g has.there has.of_meta)
-      (record { leads = refl; parcel = refl; books = refl; sent = refl; taken = refl; next = refl; groups = λ g q. inl q; still = still-fetched g (select (λ i. eqb (bit_at n i) 1) 32) s.me.0.held })
+      (record { leads = refl; parcel = refl; books = refl; sent = refl; taken = refl; next = refl; groups = λ g q. inl q; carrying = λ n q. inl q; still = still-fetched facts.start.pages g (select (λ i. eqb (bit_at n i) 1) 32) s.me.0.held (is.placed g has.there) })
 
   pub clears_stays : (meta bits n : ℕ) → HasGroup s.me.0 meta → ClearsFreed s.me.0 meta bits n t.me.0 → IsLockSeat facts t shelf room
   clears_stays meta bits n has told =
       let g = has.group in
       lock_stays facts s t shelf room (read (freed_taken s.me.0 g bits n) (meta + 28) n) is same_table same_slots (told.view g has.there has.of_meta)
-      (record { leads = refl; parcel = refl; books = refl; sent = refl; taken = refl; next = refl; groups = λ g q. inl q; still = still-fetched g (select (λ i. eqb (bit_at n i) 1 && eqb (bit_at bits i) 1) 32) s.me.0.held })
+      (record { leads = refl; parcel = refl; books = refl; sent = refl; taken = refl; next = refl; groups = λ g q. inl q; carrying = λ n q. inl q; still = still-fetched facts.start.pages g (select (λ i. eqb (bit_at n i) 1 && eqb (bit_at bits i) 1) 32) s.me.0.held (is.placed g has.there) })
 
   pub stocks_stays : (meta bits n : ℕ) → StocksAvail s.me.0 meta bits n t.me.0 → IsLockSeat facts t shelf room
   stocks_stays meta bits n told = lock_stays facts s t shelf room (read (bits_stocked s.me.0 meta bits) (meta + 24) n) is same_table same_slots told.view
-      (record { leads = refl; parcel = refl; books = refl; sent = refl; taken = refl; next = refl; groups = λ g q. inl q; still = still-let_go meta (bits_of bits) s.me.0.held })
+      (record { leads = refl; parcel = refl; books = refl; sent = refl; taken = refl; next = refl; groups = λ g q. inl q; carrying = λ n q. inl q; still = still-let_go facts.start.pages meta (bits_of bits) s.me.0.held })
 
   pub pushes_stays : (meta bits n : ℕ) → PushesFreed s.me.0 meta bits n t.me.0 → IsLockSeat facts t shelf room
   pushes_stays meta bits n told = lock_stays facts s t shelf room (read (bits_pushed s.me.0 meta bits) (meta + 28) n) is same_table same_slots told.view
-      (record { leads = refl; parcel = refl; books = refl; sent = refl; taken = refl; next = refl; groups = λ g q. inl q; still = still-let_go meta (bits_of bits) s.me.0.held })
+      (record { leads = refl; parcel = refl; books = refl; sent = refl; taken = refl; next = refl; groups = λ g q. inl q; carrying = λ n q. inl q; still = still-let_go facts.start.pages meta (bits_of bits) s.me.0.held })

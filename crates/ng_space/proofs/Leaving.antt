@@ -1,6 +1,7 @@
 -- What loads, stores and gives leave of the slots in a view.
-use Rattle.std.proofs.Common.{◌≡◌, ◌≢◌, ◌⊎◌, ℕ, ◌-◌, ◌+◌, cond, Bool, true, false, List, [], ◌∷◌, ◌++◌, map, refl, sym, ap, ◌∙◌, subst, ⊎_elim, inr}
-use Rattle.std.proofs.lemmas.List.{append-nil, append_assoc}
+use Rattle.std.proofs.Common.{◌≡◌, ◌≢◌, ◌⊎◌, ℕ, ◌-◌, ◌+◌, ◌≤◌, cond, Bool, true, false, List, [], ◌∷◌, ◌++◌, length, map, refl, sym, ap, ◌∙◌, subst, ⊎_elim, inr, arith}
+use Rattle.std.proofs.lemmas.List.{append-nil, append_assoc, length-append}
+use Rattle.std.proofs.lemmas.List.Elements.{All-append, All-cons, All-nil}
 use Rattle.std.specs.Prelude.{◌%◌, Option, Some, None}
 use Rattle.ng_terms.specs.declared.entry.Extent.{Extent}
 use Rattle.ng_terms.specs.declared.entry.Entry.{Entry}
@@ -17,7 +18,26 @@ use Rattle.ng_space.specs.Blocks.{BlockToken, Kills}
 use Rattle.ng_space.specs.Entries.{Enters}
 use Rattle.ng_space.specs.Tokens.{Token}
 use Rattle.ng_space.proofs.Holding.{find-loaded}
-use Rattle.ng_space.specs.Leaving.{CameFrom, IsOther, KeepsAll, KeepsCells, KeepsOthers, KeepsRest, Learns, Stays}
+use Rattle.ng_space.specs.Leaving.{CameFrom, IsOther, KeepsAll, KeepsCells, KeepsOthers, KeepsRest, Learns, Stays, StoredSince}
+
+-- ---- what was stored since
+pub nothing_stored : (v w : View) → w.stores ≡ v.stores → StoredSince v w
+nothing_stored v w same = record { more = []; stores = same ∙ sym (append-nil v.stores); after = All-nil (λ (s : ℕ × ℕ). length v.readings ≤ s.1) }
+
+one_stored : (v w : View) (a : ℕ) → w.stores ≡ v.stores ++ (a, length v.readings) ∷ [] → StoredSince v w
+one_stored v w a is = record {
+  more = (a, length v.readings) ∷ [];
+  stores = is;
+  after = let P : ℕ × ℕ → Type 0 = λ s. length v.readings ≤ s.1 in All-cons P (a, length v.readings) [] (omega arith) (All-nil P);
+}
+
+stored_then : (v u w : View) (read : List (ℕ × ℕ)) → u.readings ≡ v.readings ++ read → StoredSince v u → StoredSince u w → StoredSince v w
+stored_then v u w read readings one two = record {
+  more = one.more ++ two.more;
+  stores = two.stores ∙ ap (λ (s : List (ℕ × ℕ)). s ++ two.more) one.stores ∙ append_assoc v.stores one.more two.more;
+  after = All-append (λ (s : ℕ × ℕ). length v.readings ≤ s.1) one.more two.more one.after
+      (λ k d lt. let longer : length u.readings ≡ length v.readings + length read = ap length readings ∙ length-append v.readings read in let later = two.after k d lt in omega (arith, longer, later));
+}
 
 -- ---- another slot than the one that is edited
 pub not_at : (m i k j : ℕ) (p : Place) → (k ≢ m) ⊎ (j ≢ i) → is_at m i p ≡ true → is_at k j p ≡ false
@@ -97,6 +117,7 @@ loaded_rest v w a x is = record {
   taken = ap (λ (u : View). u.taken) is;
   more = (a, x) ∷ [];
   readings = ap (λ (u : View). u.readings) is;
+  stored = nothing_stored v w (ap (λ (u : View). u.stores) is);
 }
 
 pub stored_others : (slot : Token) (v w : View) (a x : ℕ) → w ≡ stored v slot.meta slot.index a x → KeepsOthers slot v w
@@ -112,6 +133,7 @@ stored_rest v w m i a x is = record {
   taken = ap (λ (u : View). u.taken) is;
   more = [];
   readings = ap (λ (u : View). u.readings) is ∙ sym (append-nil v.readings);
+  stored = one_stored v w a (ap (λ (u : View). u.stores) is);
 }
 
 pub booked_others : (slot : Token) (v w : View) (b : Option Extent) (k : ℕ) (e : Entry) → w ≡ booked_block v slot.meta slot.index b k e → KeepsOthers slot v w
@@ -127,6 +149,7 @@ booked_rest v w m i b k e is = record {
   taken = ap (λ (u : View). u.taken) is;
   more = [];
   readings = ap (λ (u : View). u.readings) is ∙ sym (append-nil v.readings);
+  stored = nothing_stored v w (ap (λ (u : View). u.stores) is);
 }
 
 -- ---- steps one after the other
@@ -152,6 +175,7 @@ rest_then v u w one two = record {
   taken = two.taken ∙ one.taken;
   more = one.more ++ two.more;
   readings = two.readings ∙ ap (λ (r : List (ℕ × ℕ)). r ++ two.more) one.readings ∙ append_assoc v.readings one.more two.more;
+  stored = stored_then v u w one.more one.readings one.stored two.stored;
 }
 
 pub others_then : (slot : Token) (v u w : View) → KeepsOthers slot v u → KeepsOthers slot u w → KeepsOthers slot v w
@@ -173,7 +197,7 @@ all_itself v = record {
 }
 
 pub rest_itself : (v : View) → KeepsRest v v
-rest_itself v = record { excuses = refl; sent = refl; taken = refl; more = []; readings = sym (append-nil v.readings) }
+rest_itself v = record { excuses = refl; sent = refl; taken = refl; more = []; readings = sym (append-nil v.readings); stored = nothing_stored v v refl }
 
 -- ---- the same slots
 pub held_all : (v w : View) → w.held ≡ v.held → KeepsAll v w
@@ -193,6 +217,7 @@ entered_rest v w number entry enters = record {
   taken = ap (λ (u : View). u.taken) enters.view;
   more = (0, enters.found) ∷ [];
   readings = ap (λ (u : View). u.readings) enters.view;
+  stored = nothing_stored v w (ap (λ (u : View). u.stores) enters.view);
 }
 
 -- a block is ended

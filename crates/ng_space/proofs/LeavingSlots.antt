@@ -11,7 +11,7 @@ use Rattle.ng_view.specs.declared.view.View.{View}
 use Rattle.ng_space.specs.Leaving.{AreFramed, HasFrame, IsOther, KeepsOthers, KeepsRest, Leaves, LeavesAll}
 use Rattle.ng_space.specs.Masks.{Looks}
 use Rattle.ng_space.specs.Tokens.{Token}
-use Rattle.ng_space.proofs.Leaving.{learns_itself, not_at}
+use Rattle.ng_space.proofs.Leaving.{learns_itself, not_at, nothing_stored}
 use Rattle.ng_space.proofs.LeavingFrames.{all_leaves, free_frame, leaves_all_then, leaves_held, leaves_loaded, leaves_then}
 
 -- ---- a word is read
@@ -22,6 +22,7 @@ leaves_read v w a x is = leaves_held v w (ap (λ (u : View). u.held) is) (record
   taken = ap (λ (u : View). u.taken) is;
   more = (a, x) ∷ [];
   readings = ap (λ (u : View). u.readings) is;
+  stored = nothing_stored v w (ap (λ (u : View). u.stores) is);
 })
 
 -- the meta's mem and flags are loaded
@@ -62,6 +63,7 @@ pushed_rest v w m i is = record {
   taken = ap (λ (u : View). u.taken) is;
   more = [];
   readings = ap (λ (u : View). u.readings) is ∙ sym (append-nil v.readings);
+  stored = nothing_stored v w (ap (λ (u : View). u.stores) is);
 }
 
 pub pushed_leaves : (slot : Token) (v w : View) → w ≡ pushed v slot.meta slot.index → Leaves slot v w
@@ -111,6 +113,7 @@ leaves_passed slot v u w h meta is here free looks = leaves_then slot v u w came
         taken = ap (λ (x : View). x.taken) is;
         more = [];
         readings = ap (λ (x : View). x.readings) is ∙ sym (append-nil v.readings);
+        stored = nothing_stored v u (ap (λ (x : View). x.stores) is);
       };
       each = came_each slot v u h held here free;
     }
@@ -124,6 +127,7 @@ leaves_popped slot v w g of_meta is = record {
     taken = ap (λ (u : View). u.taken) is;
     more = [];
     readings = ap (λ (u : View). u.readings) is ∙ sym (append-nil v.readings);
+    stored = nothing_stored v w (ap (λ (u : View). u.stores) is);
   };
   each = came_each slot v w x held here refl;
 }

@@ -25,3 +25,4 @@ pub mod Keeping
 pub mod Leaving
 pub mod LeavingFrames
 pub mod LeavingSlots
+pub mod Zeroing

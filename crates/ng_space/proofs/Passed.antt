@@ -1,7 +1,8 @@
 -- What passes between the lock's seat and a hand.
 use Rattle.std.proofs.Common.{◌≡◌, ℕ, ◌≤◌, length, ◌/◌, eqb, cond, Bool, true, false, List, [], ◌∷◌, refl, sym, ap, ◌∙◌, subst, ⊎_elim, inl, inr, arith}
 use Rattle.std.specs.Prelude.{Option, Some, None}
-use Rattle.ng_rule.proofs.geometry.Lists.{among_without, find_among}
+use Rattle.ng_meta.specs.Place.{IsMetaPlace}
+use Rattle.ng_rule.proofs.geometry.Lists.{among_without, find_among, is_at-true}
 use Rattle.ng_rule.proofs.hand.Cuts.{splits}
 use Rattle.ng_rule.proofs.hand.Passing.{cut_excuse, cut_seat, cut_slot}
 use Rattle.ng_rule.proofs.entry.EnterMoves.{no_memory_may}
@@ -37,6 +38,7 @@ cut_empty v = record {
   books = λ b s. ⊎_elim (λ (t : Among b v.books). t) (λ (t : ⊥). absurd t) s;
   excuse = λ x s. ⊎_elim (λ (t : Among x v.excuses). t) (λ (t : ⊥). absurd t) s;
   readings = refl;
+  stores = refl;
   whole = ((λ f. f), (λ p. absurd (cc)));
   single = ((λ f. f), (λ l. omega arith));
   idle = ((λ f. f), (λ b. (refl, refl, λ l p. (refl, refl))));
@@ -79,11 +81,16 @@ excuse_like v None = (refl, refl, refl, refl)
 excuse_like v (Some x) = (refl, refl, refl, refl)
 
 -- the slots of the seat stay in motion
-pub still-without : (m i : ℕ) (hs : List Held) → AreStill hs (without m i hs)
-still-without m i hs h s = inl (among_without m i hs h s)
+pub still-without : (pages m i : ℕ) (hs : List Held) → AreStill pages hs (without m i hs)
+still-without pages m i hs h s = inl (among_without m i hs h s)
 
-pub still-slot : (v : View) (w : View) (m i : ℕ) → HasFree w m i → AreStill v.held (with_slot v (find m i w.held)).held
-still-slot v w m i has = subst (λ (o : Option Held). AreStill v.held (with_slot v o).held) (sym has.found) (λ h s. ⊎_elim (λ (e : h ≡ has.held). inr (ap (λ (y : Held). y.block) e ∙ has.free)) (λ (t : Among h v.held). inl t) s)
+pub still-slot : (pages : ℕ) (v : View) (w : View) (m i : ℕ) → HasFree w m i → IsMetaPlace m pages → AreStill pages v.held (with_slot v (find m i w.held)).held
+still-slot pages v w m i has place =
+    let of_meta : has.held.place.group.meta ≡ m = (is_at-true m i has.held.place (find_among m i w.held has.held has.found).1).0 in
+    subst (λ (o : Option Held). AreStill pages v.held (with_slot v o).held) (sym has.found) (λ h s. ⊎_elim
+    (λ (e : h ≡ has.held). inr (ap (λ (y : Held). y.block) e ∙ has.free, subst (λ n. IsMetaPlace n pages) (sym (ap (λ (y : Held). y.place.group.meta) e ∙ of_meta)) place))
+    (λ (t : Among h v.held). inl t)
+    s)
 
 -- the excuse is there, and has its number
 pub excuse_found : (e : ℕ) (xs : List Excuse) (x : Excuse) → excuse_at e xs ≡ Some x → x.number ≡ e

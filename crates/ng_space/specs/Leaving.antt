@@ -1,5 +1,5 @@
 -- What a call leaves of a hand.
-use Rattle.std.specs.Prelude.{◌≡◌, ◌≢◌, ◌⊎◌, ℕ, ◌+◌, ◌++◌, List, [], ◌∷◌, Some}
+use Rattle.std.specs.Prelude.{◌≡◌, ◌≢◌, ◌⊎◌, ℕ, ◌+◌, ◌≤◌, ◌++◌, All, List, [], ◌∷◌, length, Some}
 use Rattle.ng_terms.specs.declared.entry.Entry.{Entry}
 use Rattle.ng_terms.specs.declared.entry.Extent.{Extent}
 use Rattle.ng_view.specs.Blocks.{Knows}
@@ -37,13 +37,22 @@ CameFrom m i v w R = (k : Held) → find m i w.held ≡ Some k → (h : Held) ×
 abbrev pub IsOther : Token → ℕ → ℕ → Type 0
 IsOther slot m i = (m ≢ slot.meta) ⊎ (i ≢ slot.index)
 
--- what isn't a slot, an entry or a reading is as before, and the readings have more at their end
+-- cells may have been stored since then: the stores have more at their end, each of which came behind all words that
+-- were read till then
+pub record StoredSince (v w : View) : Type 0 where
+  pub more : List (ℕ × ℕ)
+  pub stores : w.stores ≡ v.stores ++ more
+  pub after : All (λ store. length v.readings ≤ store.1) more
+
+-- what isn't a slot, an entry, a reading or a store is as before, the readings have more at their end, and so have the
+-- stores
 pub record KeepsRest (v w : View) : Type 0 where
   pub excuses : w.excuses ≡ v.excuses
   pub sent : w.sent ≡ v.sent
   pub taken : w.taken ≡ v.taken
   pub more : List (ℕ × ℕ)
   pub readings : w.readings ≡ v.readings ++ more
+  pub stored : StoredSince v w
 
 -- each slot is there, with the same place and block, and at least the same known cells
 abbrev pub KeepsSlots : View → View → Type 0

@@ -34,7 +34,6 @@ impl<N: Name> Space<N> {
         meta: u64,
         index: u32,
     ) -> Slot<N>
-        requires place { IsMetaPlace meta N.facts.start.pages }
         requires slot { HasInMotion seat.old meta index }
         ensures seat { seat.new ≡ pushed seat.old meta index }
         ensures view { Looks (with_slot hand.old.view (find meta index seat.old.held)) meta hand.new.view }

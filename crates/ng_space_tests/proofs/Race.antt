@@ -4,7 +4,7 @@ use mathlib.Core.Bool.{true≢false}
 use Rattle.std.specs.Prelude.{Some}
 use Rattle.std.specs.Int.{bit_at}
 use Rattle.std.proofs.lemmas.Bool.{cases_lt}
-use Rattle.std.proofs.lemmas.Nat.{one_shl, pow_pos}
+use Rattle.std.proofs.lemmas.Nat.{one_shl}
 use Rattle.std.proofs.lemmas.Nat.Bits.{bit_at-zero}
 use Rattle.ng_rule.proofs.geometry.Lists.{is_at-here}
 use Rattle.ng_view.specs.Conditions.{IsBlanked, IsSettled, Sees}
@@ -58,8 +58,8 @@ there v s = subst (Among race_group) (sym s.stands.groups) (inl refl)
 pub has_group : (v : View) → Serves v → HasGroup v 4120
 has_group v s = record { group = race_group; there = there v s; of_meta = refl }
 
-may_put_back : (v : View) (bits : ℕ) → Serves v → AreOut 4120 (bits_of bits) v.held → 0 < bits → MayPutBack v 4120 bits
-may_put_back v bits s out some = record { group = race_group; there = there v s; of_meta = refl; plain = race_plain; listed = s.listed; held = out; some = some }
+may_put_back : (v : View) (bits : ℕ) → Serves v → AreOut 4120 (bits_of bits) v.held → MayPutBack v 4120 bits
+may_put_back v bits s out = record { group = race_group; there = there v s; of_meta = refl; plain = race_plain; listed = s.listed; held = out }
 
 -- ---- the whole of a mask is out
 all_of : (bits : ℕ) → SplitsInto bits bits 0
@@ -91,7 +91,7 @@ may_push v w index s told =
     let h = in_motion race_group index in
     let out : AreOut 4120 (index ∷ []) (h ∷ v.held) = ((h, ap (λ b. cond b (Some h) (find 4120 index v.held)) (is_at-here h.place), refl), tt) in
     let here : AreOut 4120 (index ∷ []) w.held = subst (AreOut 4120 (index ∷ [])) (sym (told.slot race_group (there v s) refl)) out in
-    subst (MayPutBack w 4120) (sym is) (may_put_back w (2 ^ index) (serves-taken_lowest v w index s told) (subst (λ (is : List ℕ). AreOut 4120 is w.held) (sym (bits_of-pow index known)) here) (pow_pos index))
+    subst (MayPutBack w 4120) (sym is) (may_put_back w (2 ^ index) (serves-taken_lowest v w index s told) (subst (λ (is : List ℕ). AreOut 4120 is w.held) (sym (bits_of-pow index known)) here))
 
 pub serves-pushed : (v w : View) (bits n : ℕ) → Serves v → PushesFreed v 4120 bits n w → Serves w
 serves-pushed v w bits n s told = still v w (same_by v _ w told.view (record { layout = refl; groups = refl; cells = refl; listed = refl; next = refl })) s
@@ -110,7 +110,7 @@ may_refill v u w taken s none told =
     let out = out_of_front taken u.held in
     record {
       live = has_group w t;
-      slots = λ some. may_put_back w taken t (subst (AreOut 4120 (bits_of taken)) (sym (told.slots race_group (there u s') refl)) out) some;
+      slots = λ some. may_put_back w taken t (subst (AreOut 4120 (bits_of taken)) (sym (told.slots race_group (there u s') refl)) out);
       zero = λ some. subst (λ (x : View). Among 4120 x.desk.zero_avail) (sym (told.clears.view race_group (there u s') refl)) (subst (λ (x : View). Among 4120 x.desk.zero_avail) (sym none.view) (inl refl));
     }
 
@@ -134,7 +134,7 @@ module _ (v w : View) (avail freed : ℕ) (s : Serves v) (told : Captures v 4120
   pub may_stock_freed : MayStock w 4120 freed
   may_stock_freed = record {
     live = has_group w serves-captured;
-    slots = λ some. may_put_back w freed serves-captured (subst (AreOut 4120 (bits_of freed)) (sym held) (out_of_front freed (slots_of race_group avail ++ v.held))) some;
+    slots = λ some. may_put_back w freed serves-captured (subst (AreOut 4120 (bits_of freed)) (sym held) (out_of_front freed (slots_of race_group avail ++ v.held)));
     zero = λ some. told.bare_avail;
   }
 
@@ -148,8 +148,8 @@ module _ (v w : View) (avail freed : ℕ) (s : Serves v) (told : Captures v 4120
         (λ (few : freed ≤ 0). let z : freed ≡ 0 = omega arith in ap (λ (x : View). x.held) (none z) ∙ held ∙ ap (λ n. slots_of race_group n ++ rest) z)
         (cases_lt 0 freed)
 
-    pub may_push_avail : (avail ≡ 0 → ⊥) → MayPutBack u 4120 avail
-    may_push_avail ne = may_put_back u avail (serves-stocked w u freed serves-captured none stocked) (subst (AreOut 4120 (bits_of avail)) (sym left) (out_of_front avail v.held)) (omega (arith, ne))
+    pub may_push_avail : MayPutBack u 4120 avail
+    may_push_avail = may_put_back u avail (serves-stocked w u freed serves-captured none stocked) (subst (AreOut 4120 (bits_of avail)) (sym left) (out_of_front avail v.held))
 
 -- ---- the slot that the hand still has
 pub serves-came : (v w : View) (hand : Caller) (slot : Token) → Serves v → HasSlot hand slot → w ≡ with_slot v (find slot.meta slot.index hand.view.held) → Serves w

@@ -44,8 +44,8 @@ pub record IsScriptDue (left left' : Option (List ℕ)) (status : Status) : Type
   pub no_log : status ≢ NoLog
 
 -- the status tells of no fault of an input
-abbrev pub IsUnread : Status → Type 0
-IsUnread status = IsInputFault status → status ≡ Host
+abbrev pub IsFaultless : Status → Type 0
+IsFaultless status = IsInputFault status → status ≡ Host
 
 -- the status is due to the input of this command
 abbrev pub IsInputDue : Verb → Option (List ℕ) → Option (List ℕ) → Status → Type 0
@@ -53,7 +53,7 @@ IsInputDue Serial left left' status = IsLogsDue left left' status
 IsInputDue Replay left left' status = IsLogsDue left left' status
 IsInputDue Check left left' status = IsLogsDue left left' status
 IsInputDue Drill left left' status = IsScriptDue left left' status
-IsInputDue Make left left' status = IsUnread status
+IsInputDue Make left left' status = IsFaultless status
 
 -- the status of a top call is due to the words, which aren't those of a command that it does, or to the input of that command;
 -- words that aren't are told, where the host has memory to read them. Nothing is read where they aren't, nor for `make`.

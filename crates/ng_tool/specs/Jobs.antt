@@ -1,4 +1,4 @@
--- What is made ready for a command.
+-- What is made ready for a command. No public clause cites this module.
 use Rattle.std.specs.Prelude.{◌≡◌, ℕ, ◌∷◌, [], Bool, false, List, Option}
 use Rattle.ng_generator.specs.Generated.{made}
 use Rattle.ng_mapper.specs.Mapping.{Span}

@@ -23,6 +23,7 @@ pub record Cut (v l r : View) : Type 0 where
   pub books : (b : Book) → Among b l.books ⊎ Among b r.books → Among b v.books
   pub excuse : (x : Excuse) → Among x l.excuses ⊎ Among x r.excuses → Among x v.excuses
   pub readings : l.readings ≡ v.readings
+  pub stores : l.stores ≡ v.stores
   pub idle : (IsIdle v → IsIdle l) × IsIdle r
   pub whole : (IsParcel v → IsParcel l) × IsParcel r
   pub single : (IsSingle v → IsSingle l) × IsSingle r
@@ -45,6 +46,7 @@ pub record Merge (v w b s : View) : Type 0 where
   pub books : (x : Book) → Among x b.books → Among x v.books ⊎ Among x w.books
   pub excuse : (x : Excuse) → Among x b.excuses → Among x v.excuses ⊎ Among x w.excuses
   pub readings : b.readings ≡ v.readings
+  pub stores : b.stores ≡ v.stores
   pub idle : IsIdle v → IsIdle w → IsIdle b
   pub whole : IsParcel v → IsParcel w → IsParcel b
   pub single : IsSingle v → IsSingle b

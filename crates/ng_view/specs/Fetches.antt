@@ -34,7 +34,6 @@ pub record MayPutBack (v : View) (meta bits : ℕ) : Type 0 where
   pub plain : IsPlain group
   pub listed : Among meta v.desk.listed
   pub held : AreOut meta (bits_of bits) v.held
-  pub some : 0 < bits
 
 -- these bits were set in avail, whose mask was 0: their slots are out of the seat. The word was n
 pub record StocksAvail (v : View) (meta bits n : ℕ) (w : View) : Type 0 where

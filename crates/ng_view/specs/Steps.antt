@@ -1,5 +1,5 @@
 -- The views after each kind of a caller's step, and after splits and joins.
-use Rattle.std.specs.Prelude.{ℕ, ◌+◌, ◌-◌, eqb, cond, true, false, List, [], ◌∷◌, ◌++◌, map, Option, Some, None}
+use Rattle.std.specs.Prelude.{ℕ, ◌+◌, ◌-◌, eqb, cond, true, false, List, [], ◌∷◌, ◌++◌, length, map, Option, Some, None}
 use Rattle.ng_view.specs.declared.view.Group.{Group}
 use Rattle.ng_terms.specs.declared.entry.Extent.{Extent}
 use Rattle.ng_view.specs.declared.view.Held.{Held}
@@ -37,9 +37,13 @@ forget a (c ∷ cs) = cond (eqb c.0 a) (forget a cs) (c ∷ forget a cs)
 abbrev pub wrote : ℕ → ℕ → Held → Held
 wrote a x h = record h { cells = (a, x) ∷ forget a h.cells }
 
--- a store in the slot i of the meta m
+-- a cell of the slot i of the meta m gets a value
+abbrev pub edited : View → ℕ → ℕ → ℕ → ℕ → View
+edited v m i a x = record v { held = edit m i (wrote a x) v.held }
+
+-- a store of a hand in the slot i of the meta m, which comes behind so many readings
 abbrev pub stored : View → ℕ → ℕ → ℕ → ℕ → View
-stored v m i a x = record v { held = edit m i (wrote a x) v.held }
+stored v m i a x = record (edited v m i a x) { stores = v.stores ++ (a, length v.readings) ∷ [] }
 
 abbrev pub learnt : ℕ → ℕ → Held → Held
 learnt a x h = record h { cells = cond (owns_at h.place a) ((a, x) ∷ h.cells) h.cells }
@@ -77,6 +81,7 @@ spent = record {
   taken = 0;
   parcel = false;
   readings = [];
+  stores = [];
 }
 
 -- a block goes into a parcel, and comes out of it
@@ -94,6 +99,7 @@ parcel_of h = record {
   taken = 0;
   parcel = true;
   readings = [];
+  stores = [];
 }
 
 abbrev pub taken_in : View → View → View

@@ -85,7 +85,8 @@ pub struct Book {
 
 /// The view of a seat. A hand has one book and `leads` is false; the lock's seat leads and has the desk; a parcel has
 /// one slot with a block. The counts are of the parcels that were split off and joined. The readings are the pairs
-/// (address, word) that the seat's steps found, in order.
+/// (address, word) that the seat's steps found, in order. The stores are the cells of its slots that a hand stored, in
+/// order, each with the number of readings that it had then.
 #[derive(Drop)]
 pub struct View {
     pub leads: bool,
@@ -97,6 +98,7 @@ pub struct View {
     pub taken: u64,
     pub parcel: bool,
     pub readings: LinkedList<(u64, u64)>,
+    pub stores: LinkedList<(u64, u64)>,
 }
 
 /// What a heap begins with: the pages, bounds and refusals of its mapper, the secret, and the cap.

@@ -1,5 +1,5 @@
--- A reading more keeps the rule.
-use Rattle.std.proofs.Common.{◌≡◌, ℕ, ◌/◌, List, set, refl, sym, ap, subst}
+-- What was read and stored, and when, may be noted: that keeps the rule.
+use Rattle.std.proofs.Common.{◌≡◌, ℕ, ◌/◌, List, [], ◌∷◌, ◌++◌, set, refl, sym, ap, subst}
 use Rattle.std.specs.Prelude.{slice_index}
 use Rattle.atomic_table.proofs.Lists.{set_again}
 use Rattle.ng_view.specs.Cells.{cell}
@@ -24,9 +24,9 @@ use Rattle.ng_view.specs.declared.view.Start.{Start}
 use Rattle.ng_rule.proofs.geometry.Lists.{desk_same, set_self, set_twice, at_now}
 use Rattle.ng_rule.proofs.geometry.Parts.{Quiet, quiet_excuses, quiet_hands, quiet_history, same_one_block, slots_by, each_keep}
 
-module _ (key : Start) (ws : List ℕ) (vs : List View) (id : ℕ) (v : View) (kept : Rule key ws vs) (here_v : get_elem? vs id ≡ some v) (a x : ℕ) where
+module _ (key : Start) (ws : List ℕ) (vs : List View) (id : ℕ) (v : View) (kept : Rule key ws vs) (here_v : get_elem? vs id ≡ some v) (readings stores : List (ℕ × ℕ)) where
   abbrev w : View
-  w = read v a x
+  w = record v { readings = readings; stores = stores }
 
   quiet : Quiet v w
   quiet = record { leads = refl; books = refl; excuses = refl; sent = refl; taken = refl; parcel = refl; blocks = λ b. refl; idle = λ f. f; whole = λ f p. same_one_block v w refl refl refl refl (f p) }
@@ -34,8 +34,8 @@ module _ (key : Start) (ws : List ℕ) (vs : List View) (id : ℕ) (v : View) (k
   desk : desk_of (set vs id w) ≡ desk_of vs
   desk = desk_same vs id v w here_v refl refl
 
-  pub reads : Rule key ws (set vs id w)
-  reads = record {
+  pub notes : Rule key ws (set vs id w)
+  notes = record {
     slots = record {
       each = slots_by ws ws vs id v w here_v (λ n j nl lj. (refl, refl)) kept.slots;
       plain = kept.slots.plain;
@@ -62,7 +62,13 @@ stays key ws vs id k v kept e = subst (λ (p : List ℕ × List View). Rule key 
 
 -- the step's reading comes after it
 pub with_reading : (key : Start) (ws : List ℕ) (vs : List View) (id : ℕ) (v w : View) (a x : ℕ) → get_elem? vs id ≡ some v → Rule key ws (set vs id w) → Rule key ws (set vs id (read w a x))
-with_reading key ws vs id v w a x e kept = subst (Rule key ws) (set_twice vs id w (read w a x)) (reads key ws (set vs id w) id w kept (at_now vs id v w e) a x)
+with_reading key ws vs id v w a x e kept = subst (Rule key ws) (set_twice vs id w (read w a x)) (notes key ws (set vs id w) id w kept (at_now vs id v w e) (w.readings ++ (a, x) ∷ []) w.stores)
+
+-- the store comes after so many readings
+pub with_store : (key : Start) (ws : List ℕ) (vs : List View) (id : ℕ) (v w : View) (a n : ℕ) → get_elem? vs id ≡ some v → Rule key ws (set vs id w) → Rule key ws (set vs id (record w { stores = w.stores ++ (a, n) ∷ [] }))
+with_store key ws vs id v w a n e kept =
+    let u : View = record w { stores = w.stores ++ (a, n) ∷ [] } in
+    subst (Rule key ws) (set_twice vs id w u) (notes key ws (set vs id w) id w kept (at_now vs id v w e) w.readings u.stores)
 
 -- a load that changes the view alone
 pub loads_by : (key : Start) (id : ℕ) (v : View) (a : ℕ) (w : ℕ → View) → ((ws : List ℕ) (vs : List View) → Rule key ws vs → get_elem? vs id ≡ some v → Rule key ws (set vs id (w (cell ws a))))

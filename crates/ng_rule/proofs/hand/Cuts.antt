@@ -104,6 +104,7 @@ cut_parcel v m i h caller found b is = record {
   books = λ b s. ⊎_elim (λ (t : Among b v.books). t) (λ (t : ⊥). absurd t) s;
   excuse = λ x s. ⊎_elim (λ (t : Among x v.excuses). t) (λ (t : ⊥). absurd t) s;
   readings = refl;
+  stores = refl;
   idle = ((λ f b. absurd (caller b)), (λ b. (refl, refl, λ l p. absurd (true≢false p))));
   whole = ((λ f p. absurd (caller (f p).bookless)), (λ p. record { follows = refl; bookless = refl; excuseless = refl; slot = h; block = b; held = refl; live = is }));
   single = ((λ f. f), (λ l. omega arith));

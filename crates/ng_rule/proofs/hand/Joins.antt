@@ -115,6 +115,7 @@ merge_parcel v w caller leads books excuses parcel taken sent desk = record {
   books = λ b s. inl s;
   excuse = λ x s. inl s;
   readings = refl;
+  stores = refl;
   idle = λ f f' b. absurd (caller b);
   whole = λ f f' p. absurd (caller (f p).bookless);
   single = λ f. f;

@@ -39,6 +39,7 @@ merge_hand v w leads follows whole desk = record {
   books = λ b s. ⊎_elim (λ (t : Among b w.books). inr t) (λ (t : Among b v.books). inl t) (among_append w.books v.books b s);
   excuse = λ x s. ⊎_elim (λ (t : Among x w.excuses). inr t) (λ (t : Among x v.excuses). inl t) (among_append w.excuses v.excuses x s);
   readings = refl;
+  stores = refl;
   idle = λ f f' b.
       let q = both_empty w.books v.books b in let r = f q.1 in let t = f' q.0 in
       let r0 = r.0 in let r1 = r.1 in let t0 = t.0 in let t1 = t.1 in (omega arith, omega arith, λ l. absurd (true≢false (sym leads ∙ l)));
@@ -68,6 +69,7 @@ cut_seat v w m i h still leads follows whole desk caller found none none_sent no
   books = λ b s. ⊎_elim (λ (t : Among b v.books). among_either w.books v.books b (inr t)) (λ (t : Among b w.books). among_either w.books v.books b (inl t)) s;
   excuse = λ x s. ⊎_elim (λ (t : Among x v.excuses). among_either w.excuses v.excuses x (inr t)) (λ (t : Among x w.excuses). among_either w.excuses v.excuses x (inl t)) s;
   readings = refl;
+  stores = refl;
   idle = ((λ f b. (none_sent, none_taken, λ l. absurd (true≢false (sym leads ∙ l)))), (λ b. absurd (caller b)));
   whole = ((λ f p. absurd (true≢false (sym leads ∙ (f p).follows))), (λ p. absurd (true≢false (sym p ∙ whole))));
   single = ((λ f l. absurd (true≢false (sym leads ∙ l))), (λ l. one_book));
@@ -93,6 +95,7 @@ cut_slot v w m i h still leads follows whole desk caller found none_sent none_ta
   books = λ b s. ⊎_elim (λ (t : Among b v.books). among_either w.books v.books b (inr t)) (λ (t : Among b w.books). among_either w.books v.books b (inl t)) s;
   excuse = λ x s. ⊎_elim (λ (t : Among x v.excuses). among_either w.excuses v.excuses x (inr t)) (λ (t : Among x w.excuses). among_either w.excuses v.excuses x (inl t)) s;
   readings = refl;
+  stores = refl;
   idle = ((λ f b. (none_sent, none_taken, λ l. absurd (true≢false (sym leads ∙ l)))), (λ b. absurd (caller b)));
   whole = ((λ f p. absurd (true≢false (sym leads ∙ (f p).follows))), (λ p. absurd (true≢false (sym p ∙ whole))));
   single = ((λ f l. absurd (true≢false (sym leads ∙ l))), (λ l. one_book));
@@ -143,6 +146,7 @@ cut_excuse v w e x still leads follows whole desk caller found none_sent none_ta
       (λ (t : Among y (without_one e v.excuses)). inr (excuse-without e v.excuses y t))
       (λ (t : Among y (x ∷ w.excuses)). ⊎_elim (λ (q : y ≡ x). inr (subst (λ z. Among z v.excuses) (sym q) (excuse-among e v.excuses x found))) (λ (t : Among y w.excuses). inl t) t) s);
   readings = refl;
+  stores = refl;
   idle = ((λ f b. (none_sent, none_taken, λ l. absurd (true≢false (sym leads ∙ l)))), (λ b. absurd (caller b)));
   whole = ((λ f p. absurd (true≢false (sym leads ∙ (f p).follows))), (λ p. absurd (true≢false (sym p ∙ whole))));
   single = ((λ f l. absurd (true≢false (sym leads ∙ l))), (λ l. one_book));

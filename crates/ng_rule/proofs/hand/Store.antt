@@ -24,8 +24,9 @@ use Rattle.ng_view.specs.Knowledge.{IsFree, IsKnown, Noted}
 use Rattle.ng_view.specs.Blocks.{IsSet}
 use Rattle.ng_view.specs.Slots.{IsPlace}
 use Rattle.ng_view.specs.Listing.{Listing}
-use Rattle.ng_view.specs.Steps.{forget, wrote, stored}
+use Rattle.ng_view.specs.Steps.{edited, forget, stored, wrote}
 use Rattle.ng_rule.proofs.hand.Load.{served_more}
+use Rattle.ng_rule.proofs.geometry.Readings.{with_store}
 use Rattle.ng_rule.proofs.geometry.Lists.{each_set, desk_same, at_other, index_same, find_among, among_edit, among_edit_once, total_by-edit, is_at-true}
 use Rattle.ng_rule.proofs.geometry.Facts.{marked_dead, has_held, held_slot, held_leaf, nested, alone, once}
 use Rattle.ng_rule.proofs.geometry.Nesting.{IsSlot, IsLeaf, own_in_run, off_areas, leaves_apart}
@@ -55,7 +56,7 @@ module _ (key : Start) (ws : List ℕ) (vs : List View) (id : ℕ) (v : View) (k
   ws' = set ws (a / 4) x
 
   abbrev w : View
-  w = stored v m i a x
+  w = edited v m i a x
 
   there : Among h v.held × (is_at m i h.place ≡ true)
   there = find_among m i v.held h found
@@ -129,8 +130,8 @@ module _ (key : Start) (ws : List ℕ) (vs : List View) (id : ℕ) (v : View) (k
       let o = once ws vs kept.slots id v h.place here_v slot.0 in
       let o' : has m i v ≤ 1 = subst (λ (q : ℕ × ℕ). has q.0 q.1 v ≤ 1) (λ t. (p.0 t, p.1 t)) o in omega arith
 
-  pub stores : Rule key ws' (set vs id w)
-  stores = record {
+  pub edits : Rule key ws' (set vs id w)
+  edits = record {
     slots = slots_with key ws vs kept.slots kept.words.lawful ws' id v w here_v (slots_by ws ws' vs id v w here_v (λ n j nl lj. ((let e = marks n j nl in let b = counts n j in omega arith), owed_same ws ws' (desk_of vs).layout same n j nl)) kept.slots) (plain_less ws ws' (λ n j nl lj. let e = marks n j nl in omega arith) kept.slots.plain) same refl mine;
     words = record {
       lawful = subst (λ (z : Desk). IsLawful key ws' z.layout) (sym desk) (words_same key ws ws' (desk_of vs).layout kept.words.lawful same (first_same key ws ws' page_zero kept.words.lawful.first));
@@ -178,3 +179,7 @@ module _ (key : Start) (ws : List ℕ) (vs : List View) (id : ℕ) (v : View) (k
           (λ (t : Among y v.held × (is_at m i y.place ≡ false)). other_cell id v y here_v t.0 (λ q. true≢false (sym there.1 ∙ ap (is_at m i) (sym q) ∙ t.1)) (kept.knowledge.each id v here_v y t.0))
           (λ (e : y ≡ wrote a x h). subst (IsKnown ws') (sym e) wrote_known)
           (among_edit_once m i (wrote a x) v.held h y found one s)
+
+  -- a hand notes its store
+  pub stores : Rule key ws' (set vs id (stored v m i a x))
+  stores = with_store key ws' vs id v w a (length v.readings) here_v edits

@@ -55,12 +55,12 @@ module _ (key : Start) (id : ℕ) (v : View) (leads : v.leads ≡ true) where
   stocks meta bits may zero small ws vs kept at fits =
       let h = may.group in let e = may.of_meta in
       let p = subst (λ m. May key id v ((m + 24) / 4) (λ n. bit_or n bits) (λ before n after. after ≡ read (bits_stocked before m bits) (m + 24) n)) e
-      (stock_may key id v leads h bits may.there may.plain (subst (λ m. Among m v.desk.listed) (sym e) may.listed) (subst (λ m. AreOut m (bits_of bits) v.held) (sym e) may.held) may.some small) ws vs kept at fits in
+      (stock_may key id v leads h bits may.there may.plain (subst (λ m. Among m v.desk.listed) (sym e) may.listed) (subst (λ m. AreOut m (bits_of bits) v.held) (sym e) may.held) small) ws vs kept at fits in
       (p.0, p.1, record { view = p.2; was_zero = (tells_avail_at ws vs kept at meta h may.there e).zero (subst (λ m. Among m v.desk.zero_avail) (sym e) zero) })
 
   pub pushes_back : (meta bits : ℕ) → MayPutBack v meta bits → bits < 4294967296 → May key id v ((meta + 28) / 4) (λ n. bit_or n bits) (λ before n after. PushesFreed before meta bits n after)
   pushes_back meta bits may small ws vs kept at fits =
       let h = may.group in let e = may.of_meta in
       let p = subst (λ m. May key id v ((m + 28) / 4) (λ n. bit_or n bits) (λ before n after. after ≡ read (bits_pushed before m bits) (m + 28) n)) e
-      (push_parent_may key id v leads h bits may.there may.plain (subst (λ m. Among m v.desk.listed) (sym e) may.listed) (subst (λ m. AreOut m (bits_of bits) v.held) (sym e) may.held) may.some small) ws vs kept at fits in
+      (push_parent_may key id v leads h bits may.there may.plain (subst (λ m. Among m v.desk.listed) (sym e) may.listed) (subst (λ m. AreOut m (bits_of bits) v.held) (sym e) may.held) small) ws vs kept at fits in
       (p.0, p.1, record { view = p.2; tells = tells_freed_at ws vs kept at meta })

@@ -17,10 +17,11 @@ use Rattle.ng_view.specs.May.{May}
 use Rattle.std.specs.Prelude.{◌^◌, bit_or, max, min}
 use Rattle.std.specs.Int.{w64}
 use Rattle.std.proofs.lemmas.Nat.Bits.{bit_at_set_same, bit_at_set_other, bit_at_above, bit_at_or, bit_at-lt, same_from_bits}
-use Rattle.ng_rule.proofs.geometry.Lists.{select-times}
+use Rattle.ng_rule.proofs.geometry.Lists.{select-times, set_self}
 use Rattle.ng_rule.proofs.geometry.Bits.{raised, count_of-same, count_of-other}
 use Rattle.ng_rule.proofs.group.Retire.{among_others}
 use Rattle.ng_rule.proofs.geometry.Readings.{with_reading}
+use Rattle.ng_rule.proofs.lock.Ring.{notes_ring}
 use Rattle.ng_rule.proofs.lock.Several.{raise_by, raises_all}
 
 -- the bits that are set in the end
@@ -74,40 +75,37 @@ or_is n bits fits = same_from_bits (raise_by n (bits_of bits)) (bit_or n bits) (
     one_bit_of (suc zero) h = refl
     one_bit_of (suc (suc y)) h = absurd (omega arith)
 
-some_of : (bits : ℕ) → 0 < bits → bits < 4294967296 → bits_of bits ≡ [] → ⊥
-some_of bits h fits e =
-    let o = or_is 0 bits fits in
-    let z : bit_or 0 bits ≡ 0 = sym o ∙ ap (raise_by 0) e in
-    let q : bit_or 0 bits ≡ bits = same_from_bits (bit_or 0 bits) bits (λ j. let a = bit_at_or 0 bits j in let b = Rattle.ng_rule.proofs.group.Publish.bit_zero j in let x : ℕ = bit_at (bit_or 0 bits) j in let y : ℕ = bit_at 0 j in let w : ℕ = bit_at bits j in let a' : x ≡ max y w = a in let b' : y ≡ 0 = b in let r : x ≡ w = omega (arith, a', b') in r) in
-    let y : ℕ = bit_or 0 bits in omega arith
-
 module _ (key : Start) (id : ℕ) (v : View) (leads : v.leads ≡ true) where
-  by_list : (c : ℕ) (mask : (c ≡ 24) ⊎ (c ≡ 28)) (bits : ℕ) (is : List ℕ) → bits_of bits ≡ is → 0 < bits → bits < 4294967296 → (ws : List ℕ) (vs : List View) → Rule key ws vs → get_elem? vs id ≡ some v
+  by_list : (c : ℕ) (mask : (c ≡ 24) ⊎ (c ≡ 28)) (bits : ℕ) (is : List ℕ) → bits_of bits ≡ is → bits < 4294967296 → (ws : List ℕ) (vs : List View) → Rule key ws vs → get_elem? vs id ≡ some v
       → (g : Group) → Among g v.desk.groups → IsPlain g → Among g.meta v.desk.listed → AreOut g.meta (bits_of bits) v.held → cell ws (g.meta + c) < 2 ^ 64 → (ba bf : List ℕ)
       → ((n : ℕ) → Among n ba → Among n v.desk.zero_avail × (c ≡ 24 → n ≢ g.meta)) → ((n : ℕ) → Among n bf → Among n v.desk.zero_freed × (c ≡ 28 → n ≢ g.meta))
       → Rule key (set ws ((g.meta + c) / 4) (bit_or (cell ws (g.meta + c)) bits)) (set vs id (record v { held = let_go g.meta (bits_of bits) v.held; desk = record v.desk { zero_avail = ba; zero_freed = bf } }))
-  by_list c mask bits [] is some_bit fits ws vs kept e g there plain listed out small ba bf na nf = absurd (some_of bits some_bit fits is)
-  by_list c mask bits (i ∷ is) eq some_bit fits ws vs kept e g there plain listed out small ba bf na nf =
+  by_list c mask bits [] eq fits ws vs kept e g there plain listed out small ba bf na nf =
+      subst (λ x. Rule key (set ws ((g.meta + c) / 4) x) (set vs id (record v { held = let_go g.meta (bits_of bits) v.held; desk = record v.desk { zero_avail = ba; zero_freed = bf } }))) (or_is (cell ws (g.meta + c)) bits fits)
+      (subst (λ (l : List ℕ). Rule key (set ws ((g.meta + c) / 4) (raise_by (cell ws (g.meta + c)) l)) (set vs id (record v { held = let_go g.meta l v.held; desk = record v.desk { zero_avail = ba; zero_freed = bf } }))) (sym eq)
+      (subst (λ (l : List ℕ). Rule key l (set vs id (record v { desk = record v.desk { zero_avail = ba; zero_freed = bf } }))) (sym (set_self ws ((g.meta + c) / 4)))
+      (notes_ring key ws vs id v kept e leads v.desk.listed ba bf v.desk.set_freed (λ n j nl lj some_bit q. q) (λ n q. inl q) (λ n q. inl (na n q).0) (λ n q. inl (nf n q).0) (λ n i q. inl q))))
+  by_list c mask bits (i ∷ is) eq fits ws vs kept e g there plain listed out small ba bf na nf =
       subst (λ x. Rule key (set ws ((g.meta + c) / 4) x) (set vs id (record v { held = let_go g.meta (bits_of bits) v.held; desk = record v.desk { zero_avail = ba; zero_freed = bf } }))) (or_is (cell ws (g.meta + c)) bits fits)
       (subst (λ (l : List ℕ). Rule key (set ws ((g.meta + c) / 4) (raise_by (cell ws (g.meta + c)) l)) (set vs id (record v { held = let_go g.meta l v.held; desk = record v.desk { zero_avail = ba; zero_freed = bf } }))) (sym eq)
       (raises_all key id g.meta c mask i is ws vs v kept e leads (subst (λ (l : List ℕ). AreOut g.meta l v.held) eq out) listed g there refl plain small ba bf na nf))
 
-  pub stock_may : (g : Group) (bits : ℕ) → Among g v.desk.groups → IsPlain g → Among g.meta v.desk.listed → AreOut g.meta (bits_of bits) v.held → 0 < bits → bits < 4294967296
+  pub stock_may : (g : Group) (bits : ℕ) → Among g v.desk.groups → IsPlain g → Among g.meta v.desk.listed → AreOut g.meta (bits_of bits) v.held → bits < 4294967296
       → May key id v ((g.meta + 24) / 4) (λ n. bit_or n bits) (λ v n u. u ≡ read (bits_stocked v g.meta bits) (g.meta + 24) n)
-  stock_may g bits there plain listed out some_bit fits ws vs kept e small = (
+  stock_may g bits there plain listed out fits ws vs kept e small = (
     read (bits_stocked v g.meta bits) (g.meta + 24) (avail ws g.meta),
     with_reading key (set ws ((g.meta + 24) / 4) (bit_or (avail ws g.meta) bits)) vs id v (bits_stocked v g.meta bits) (g.meta + 24) (avail ws g.meta) e
-        (by_list 24 (inl refl) bits (bits_of bits) refl some_bit fits ws vs kept e g there plain listed out small (others g.meta v.desk.zero_avail) v.desk.zero_freed
+        (by_list 24 (inl refl) bits (bits_of bits) refl fits ws vs kept e g there plain listed out small (others g.meta v.desk.zero_avail) v.desk.zero_freed
         (λ n q. let r = among_others g.meta v.desk.zero_avail n q in (r.0, λ s. r.1)) (λ n q. (q, λ s. absurd (omega arith)))),
     refl,
   )
 
-  pub push_parent_may : (g : Group) (bits : ℕ) → Among g v.desk.groups → IsPlain g → Among g.meta v.desk.listed → AreOut g.meta (bits_of bits) v.held → 0 < bits → bits < 4294967296
+  pub push_parent_may : (g : Group) (bits : ℕ) → Among g v.desk.groups → IsPlain g → Among g.meta v.desk.listed → AreOut g.meta (bits_of bits) v.held → bits < 4294967296
       → May key id v ((g.meta + 28) / 4) (λ n. bit_or n bits) (λ v n u. u ≡ read (bits_pushed v g.meta bits) (g.meta + 28) n)
-  push_parent_may g bits there plain listed out some_bit fits ws vs kept e small = (
+  push_parent_may g bits there plain listed out fits ws vs kept e small = (
     read (bits_pushed v g.meta bits) (g.meta + 28) (freed ws g.meta),
     with_reading key (set ws ((g.meta + 28) / 4) (bit_or (freed ws g.meta) bits)) vs id v (bits_pushed v g.meta bits) (g.meta + 28) (freed ws g.meta) e
-        (by_list 28 (inr refl) bits (bits_of bits) refl some_bit fits ws vs kept e g there plain listed out small v.desk.zero_avail (others g.meta v.desk.zero_freed)
+        (by_list 28 (inr refl) bits (bits_of bits) refl fits ws vs kept e g there plain listed out small v.desk.zero_avail (others g.meta v.desk.zero_freed)
         (λ n q. (q, λ s. absurd (omega arith))) (λ n q. let r = among_others g.meta v.desk.zero_freed n q in (r.0, λ s. r.1))),
     refl,
   )

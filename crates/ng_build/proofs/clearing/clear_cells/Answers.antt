@@ -24,5 +24,5 @@ returns-clause-reads g c =
     let reads = c.loop-k.invariant.reads in record {
       words = reads.words;
       readings = reads.readings;
-      within = within_more c.args.from (c.args.from + 4 * c.loop-k.k) (c.args.from + 4 * c.args.cells) reads.words (omega (arith, c.loop-k.auto.k-end)) reads.within;
+      within = within_more c.args.from (c.args.from + 4 * c.loop-k.k) c.args.from (c.args.from + 4 * c.args.cells) reads.words (omega arith) (omega (arith, c.loop-k.auto.k-end)) reads.within;
     }

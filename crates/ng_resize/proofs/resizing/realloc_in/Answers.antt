@@ -1,5 +1,6 @@
 use Rattle.std.proofs.Common.{◌∙◌, ap, min, inl, inr, refl, subst, arith}
 use Rattle.ng_frame.proofs.Tokens.{block_stays}
+use Rattle.ng_space.proofs.Leaving.{rest_then}
 use Rattle.ng_space.proofs.LeavingFrames.{leaves_all_then, leaves_entered}
 use Rattle.ng_heap.specs.Freeing.{FreesIn}
 use Rattle.ng_resize.specs.Moving.{KeepsFirst, MakesIn}
@@ -77,6 +78,10 @@ pub resize-requires-clause-serves : goal.resize-requires-clause-serves
 resize-requires-clause-serves g c =
     let seen = c.in-Ok.ensures in
     λ h found. stays_serves c.args.n c.args.block h (stays_here c.args.hand.now c.look_first.new.hand c.args.block c.args.n c.in-Ok.found.stays seen.book.number seen.leaves seen.exact c.if-found.true h found).rule
+
+pub returns-then-found-clause-rest : goal.returns-then-found-clause-rest
+returns-then-found-clause-rest g c =
+    rest_then c.args.hand.now.view c.look_first.new.hand.view c.resize.new.hand.view c.look_first.ensures.leaves.rest c.resize.ensures.leaves.rest
 
 pub returns-then-found-clause-stays : goal.returns-then-found-clause-stays
 returns-then-found-clause-stays g c =

@@ -9,7 +9,7 @@ pub stock-requires : goal.stock-requires
 stock-requires g c = record { may = (may_stock_freed _ _ _ _ c.requires.serves c.capture-avail.ensures.captured) }
 
 pub push_parent-requires : goal.push_parent-requires
-push_parent-requires g c = record { slots = (may_push_avail _ _ _ _ c.requires.serves c.capture-avail.ensures.captured _ c.stock.ensures.none c.stock.ensures.stocked c.if-avail-ne0.true) }
+push_parent-requires g c = record { slots = (may_push_avail _ _ _ _ c.requires.serves c.capture-avail.ensures.captured _ c.stock.ensures.none c.stock.ensures.stocked) }
 
 pub returns-then-avail-ne0 : goal.returns-then-avail-ne0
 returns-then-avail-ne0 g c = record { serves = serves-pushed _ _ _ _ (serves-stocked _ _ _ (serves-captured _ _ _ _ c.requires.serves c.capture-avail.ensures.captured) c.stock.ensures.none c.stock.ensures.stocked) c.push_parent.ensures }

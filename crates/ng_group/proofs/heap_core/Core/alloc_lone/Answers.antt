@@ -3,25 +3,20 @@ use Rattle.ng_terms.specs.Accounts.{pages_for}
 use Rattle.ng_view.specs.declared.view.View.{View}
 use Rattle.ng_group.specs.Hands.{GainsExcuse, GainsSlot}
 use Rattle.ng_group.proofs.AskedLemmas.{passed_leaves, passed_lone, passed_lone_cause}
-use Rattle.ng_group.proofs.CallLemmas.{Refuses, Serves, bounded_calm, bounded_most, excuse_found, excuse_number, gets_excuse, refuses_at, rests_excuse, rests_slot, serves_at, slot_found, slot_motion, slot_place, works_of}
+use Rattle.ng_group.proofs.CallLemmas.{Refuses, Serves, bounded_calm, bounded_most, excuse_found, excuse_number, gets_excuse, refuses_at, rests_excuse, rests_slot, serves_at, slot_found, slot_motion, works_of}
 use Rattle.ng_group.proofs.HandKeepLemmas.{apart_of, excused_keeps, gained_keeps}
 use Rattle.ng_group.proofs.HandSlotLemmas.{excused, learns_same, passed, passed_slot}
 use Rattle.ng_group.proofs.heap_core.Core.alloc_lone.Given.{Over}
 use Rattle.ng_group.proofs.heap_core.Core.alloc_lone.Goals as goal
 
 -- ---- the seat passed on a slot
-pub slot_to_hand-requires-clause-place : goal.slot_to_hand-requires-clause-place
-slot_to_hand-requires-clause-place g c =
-    slot_place g.N.Name.facts.start g.M.Mapper.span g.M.Mapper.runs g.M.Mapper.refused (works_of c.self-inside.view_is)
-    63 c.args.bytes c.in-Ok.meta 0
-    c.in-Ok.ensures.working
-    c.in-Ok.ensures.served
-
-pub slot_to_hand-requires-clause-slot : goal.slot_to_hand-requires-clause-slot
-slot_to_hand-requires-clause-slot g c =
-    slot_motion g.N.Name.facts.start g.M.Mapper.span g.M.Mapper.runs g.M.Mapper.refused (works_of c.self-inside.view_is)
-    63 c.args.bytes c.in-Ok.meta 0
-    c.in-Ok.ensures.served
+pub slot_to_hand-requires : goal.slot_to_hand-requires
+slot_to_hand-requires g c = record {
+  slot =
+      slot_motion g.N.Name.facts.start g.M.Mapper.span g.M.Mapper.runs g.M.Mapper.refused (works_of c.self-inside.view_is)
+      63 c.args.bytes c.in-Ok.meta 0
+      c.in-Ok.ensures.served;
+}
 
 -- what the seat's call told
 served : (g : Over) (c : goal.After-slot_to_hand g)

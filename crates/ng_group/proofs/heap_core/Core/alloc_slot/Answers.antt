@@ -2,7 +2,7 @@ use Rattle.std.proofs.Common.{ap, refl, sym, arith, inl, inr}
 use Rattle.ng_view.specs.declared.view.View.{View}
 use Rattle.ng_group.specs.Hands.{GainsExcuse, GainsSlot}
 use Rattle.ng_group.proofs.AskedLemmas.{passed_builds, passed_cause, passed_leaves}
-use Rattle.ng_group.proofs.CallLemmas.{Refuses, Serves, bounded_calm, bounded_most, excuse_found, excuse_number, first_place, gets_excuse, refuses_at, rests_excuse, rests_slot, serves_at, slot_found, slot_motion, slot_place, works_of}
+use Rattle.ng_group.proofs.CallLemmas.{Refuses, Serves, bounded_calm, bounded_most, excuse_found, excuse_number, first_place, gets_excuse, refuses_at, rests_excuse, rests_slot, serves_at, slot_found, slot_motion, works_of}
 use Rattle.ng_group.proofs.HandKeepLemmas.{apart_of, excused_keeps, gained_keeps}
 use Rattle.ng_group.proofs.HandSlotLemmas.{Tried, excused, passed, passed_slot, tried_book, tried_not, tried_pop, won, won_slot}
 use Rattle.ng_group.proofs.WorkingLemmas.{goes_same}
@@ -46,18 +46,13 @@ pub returns-in-Won-clause-on : goal.returns-in-Won-clause-on
 returns-in-Won-clause-on g c = goes_same c.args.self.now.seat
 
 -- ---- the seat passed on a slot
-pub slot_to_hand-requires-clause-place : goal.slot_to_hand-requires-clause-place
-slot_to_hand-requires-clause-place g c =
-    slot_place g.N.Name.facts.start g.M.Mapper.span g.M.Mapper.runs g.M.Mapper.refused (works_of c.self-inside-2.view_is)
-    c.args.class c.args.bytes c.in-Ok.meta c.in-Ok.index
-    c.in-Ok.ensures.working
-    c.in-Ok.ensures.served
-
-pub slot_to_hand-requires-clause-slot : goal.slot_to_hand-requires-clause-slot
-slot_to_hand-requires-clause-slot g c =
-    slot_motion g.N.Name.facts.start g.M.Mapper.span g.M.Mapper.runs g.M.Mapper.refused (works_of c.self-inside-2.view_is)
-    c.args.class c.args.bytes c.in-Ok.meta c.in-Ok.index
-    c.in-Ok.ensures.served
+pub slot_to_hand-requires : goal.slot_to_hand-requires
+slot_to_hand-requires g c = record {
+  slot =
+      slot_motion g.N.Name.facts.start g.M.Mapper.span g.M.Mapper.runs g.M.Mapper.refused (works_of c.self-inside-2.view_is)
+      c.args.class c.args.bytes c.in-Ok.meta c.in-Ok.index
+      c.in-Ok.ensures.served;
+}
 
 -- what the seat's call told
 served : (g : Over) (c : goal.After-slot_to_hand g)

@@ -22,7 +22,7 @@ pub invariant_of-seat : goal.invariant_of-seat
 invariant_of-seat g c =
     let lock = c.pass_excuse.ensures.lock in
     lock_stays _ _ _ _ _ _ c.seat.invariant c.pass_excuse.ensures.tables.0 (ap (λ me. me.1) lock) (ap (λ me. me.0) lock)
-    (record { leads = refl; parcel = refl; books = refl; sent = refl; taken = refl; next = refl; groups = λ g q. inl q; still = λ h s. inl s })
+    (record { leads = refl; parcel = refl; books = refl; sent = refl; taken = refl; next = refl; groups = λ g q. inl q; carrying = λ n q. inl q; still = λ h s. inl s })
 
 pub returns-clause-has : goal.returns-clause-has
 returns-clause-has g c =

@@ -86,6 +86,8 @@ invariant_of-lock g c =
       none_taken = ap (λ (v : View). v.taken) lock;
       moving = λ h there. elim (subst (λ (v : View). Among h v.held) lock there) [ ];
       placed = λ h there. elim (subst (λ (v : View). Among h v.desk.groups) lock there) [ ];
+      standing = λ h there. elim (subst (λ (v : View). Among h v.held) lock there) [ ];
+      carrying = λ n there. elim (subst (λ (v : View). Among n v.desk.layout.nests) lock there) [ ];
       next = ap (λ (v : View). v.desk.next) lock;
       few = (let few = blank.few in let all = c.requires.hands in let rooms = ap (λ b. length b.rooms) c.blank.view_is in let same = length-rooms c.blank.inside.books.items in omega arith);
       cleared = blank.cleared;

@@ -1,5 +1,6 @@
 use Rattle.std.proofs.Common.{ap, ◌∙◌, sym, subst, refl, inl}
-use Rattle.ng_rule.proofs.geometry.Lists.{find_among}
+use Rattle.ng_rule.proofs.geometry.Lists.{find_among, is_at-true}
+use Rattle.ng_meta.specs.Place.{IsMetaPlace}
 use Rattle.ng_view.specs.Lists.{is_at}
 use Rattle.ng_view.specs.Steps.{with_held}
 use Rattle.ng_space.specs.Callers.{Caller}
@@ -24,11 +25,17 @@ pub slot_at-requires-clause-free : goal.slot_at-requires-clause-free
 slot_at-requires-clause-free g c = subst (λ (w : View). HasFree w c.args.meta c.args.index) (sym (ap (λ me. me.0) c.pass_slot.ensures.own))
     (passed_free c.seat.inside.seat.me.0 c.hand.inside.seat.me.0 _ _ c.seat.invariant.moving (subst (λ (v : View). HasInMotion v c.args.meta c.args.index) (sym c.seat.view_is) c.requires.slot))
 
+pub slot_at-requires-clause-place : goal.slot_at-requires-clause-place
+slot_at-requires-clause-place g c =
+    let slot = subst (λ (v : View). HasInMotion v c.args.meta c.args.index) (sym c.seat.view_is) c.requires.slot in
+    let there = find_among c.args.meta c.args.index c.seat.inside.seat.me.0.held slot.slot slot.found in
+    subst (λ m. IsMetaPlace m g.N.Name.facts.start.pages) (is_at-true c.args.meta c.args.index slot.slot.place there.1).0 (c.seat.invariant.standing slot.slot there.0)
+
 pub invariant_of-seat : goal.invariant_of-seat
 invariant_of-seat g c =
     let lock = c.pass_slot.ensures.lock in
     lock_stays _ _ _ _ _ _ c.seat.invariant c.pass_slot.ensures.tables.0 (ap (λ me. me.1) lock) (ap (λ me. me.0) lock)
-    (record { leads = refl; parcel = refl; books = refl; sent = refl; taken = refl; next = refl; groups = λ g q. inl q; still = still-without c.args.meta c.args.index c.seat.inside.seat.me.0.held })
+    (record { leads = refl; parcel = refl; books = refl; sent = refl; taken = refl; next = refl; groups = λ g q. inl q; carrying = λ n q. inl q; still = still-without g.N.Name.facts.start.pages c.args.meta c.args.index c.seat.inside.seat.me.0.held })
 
 pub returns-clause-leaves : goal.returns-clause-leaves
 returns-clause-leaves g c =

@@ -30,7 +30,8 @@ invariant_of-seat g c =
       taken = like.5;
       next = ap (λ (d : Desk). d.next) like.2;
       groups = λ h q. inl (subst (Among h) (ap (λ (d : Desk). d.groups) like.2) q);
-      still = still-slot c.seat.inside.seat.me.0 c.hand.inside.seat.me.0 c.slot.inside.meta c.slot.inside.index (token_free _ _ _ _ _ c.requires.slot (ap (λ (hand : Caller). hand.view) c.hand.view_is) (ap (λ (slot : Token). slot.meta) c.slot.view_is) (ap (λ (slot : Token). slot.index) c.slot.view_is));
+      carrying = λ n q. inl (subst (Among n) (ap (λ (d : Desk). d.layout.nests) like.2) q);
+      still = still-slot g.N.Name.facts.start.pages c.seat.inside.seat.me.0 c.hand.inside.seat.me.0 c.slot.inside.meta c.slot.inside.index (token_free _ _ _ _ _ c.requires.slot (ap (λ (hand : Caller). hand.view) c.hand.view_is) (ap (λ (slot : Token). slot.meta) c.slot.view_is) (ap (λ (slot : Token). slot.index) c.slot.view_is)) c.slot.invariant.place;
     })
 
 pub returns-clause-leaves : goal.returns-clause-leaves

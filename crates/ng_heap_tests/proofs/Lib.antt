@@ -1,0 +1,2 @@
+pub mod AtTestLemmas
+pub mod TestLemmas

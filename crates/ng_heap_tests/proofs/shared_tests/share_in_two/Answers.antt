@@ -1,0 +1,10 @@
+use Rattle.std.proofs.Common.{ap, ◌∙◌}
+use Rattle.ng_space.specs.Callers.{Caller}
+use Rattle.ng_space.proofs.Counting.{all_of_two}
+use Rattle.ng_heap_tests.proofs.shared_tests.share_in_two.Goals as goal
+
+pub close-image-requires-clause-all : goal.close-image-requires-clause-all
+close-image-requires-clause-all g c =
+    let joined = c.join-first.ensures in
+    all_of_two _ _ c.join-first.result.0 c.join-first.result.1 c.requires.hands
+    c.in_ok-vec.ensures.items (joined.first.number ∙ ap (λ (h : Caller). h.number) c.two_hands-first.ensures.first) (joined.second.number ∙ ap (λ (h : Caller). h.number) c.two_hands-first.ensures.second)

@@ -1,0 +1,6 @@
+use Rattle.std.specs.Prelude.{length}
+use Rattle.ng_replay_tests.proofs.threading_tests.two_logs_go_beside_each_other.Given as goal
+
+-- the heap that was just made
+abbrev pub ghosts-replayed : goal.ghosts-replayed
+ghosts-replayed g a = record { facts = record { table = a.blank.table; start = a.blank.start; hands = length a.blank.rooms; most = 0 } }
