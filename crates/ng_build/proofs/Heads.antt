@@ -1,5 +1,5 @@
 -- The head of a group in a slot, and the headers of its slots, as they are written and cleared.
-use Rattle.std.proofs.Common.{◌≡◌, ◌≢◌, ℕ, ◌+◌, ◌-◌, ◌*◌, ◌/◌, ◌%◌, ◌^◌, ◌<◌, ◌≤◌, refl, sym, ap, ◌∙◌, subst, ⊎_elim, inl, inr, mul-le-mul_left, arith}
+use Rattle.std.proofs.Common.{◌≡◌, ◌≢◌, ◌⊎◌, ℕ, ◌+◌, ◌-◌, ◌*◌, ◌/◌, ◌%◌, ◌^◌, ◌<◌, ◌≤◌, length, refl, sym, ap, ◌∙◌, subst, ⊎_elim, inl, inr, mul-le-mul_left, arith}
 use Rattle.std.proofs.lemmas.Bool.{cases_eq, cases_lt}
 use Rattle.ng_class.specs.Class.{IsLeastClass, unit_table, units_of}
 use Rattle.ng_class.specs.Slot.{stride_of}
@@ -14,10 +14,11 @@ use Rattle.ng_view.specs.declared.view.Group.{Group}
 use Rattle.ng_view.specs.declared.view.View.{View}
 use Rattle.ng_view.specs.Stores.{FitsMotion, Stores}
 use Rattle.ng_build.specs.Drafts.{draft_group}
-use Rattle.ng_build.specs.Nestings.{HasCarrier, HasHead, OnlySlot, SeesIn, recalling}
+use Rattle.ng_build.specs.Nestings.{AreHeadersLow, HasCarrier, HasHead, OnlySlot, SeesIn, StoresBefore, recalling}
 use Rattle.ng_build.specs.declared.draft.Draft.{Draft}
 use Rattle.ng_build.specs.declared.nesting.Carrier.{Carrier}
-use Rattle.ng_build.specs.Written.{AreHeadersLow, HasHeaders, KeepsIn}
+use Rattle.ng_build.specs.Written.{HasHeaders, KeepsIn}
+use Rattle.ng_build.proofs.Storing.{stores_both, stores_none, stores_one}
 use Rattle.ng_build.proofs.Slots.{HasSlotAt, Writes, slot_after, slot_both, slot_fits, slot_found, slot_none, slot_writes}
 
 pub carrier_at : (v : View) (c : Carrier) (g : Group) → HasCarrier v c g → HasSlotAt v c.meta c.index g.base c.stride
@@ -68,6 +69,11 @@ module _ (v : View) (m i base room : ℕ) (has : HasSlotAt v m i base room) (who
 
         pub head_only : OnlySlot v m i w3
         head_only = slot_both v w2 w3 m i (slot_both v w1 w2 m i p1.only p2.only) p3.only
+
+        pub head_stores : (to : ℕ) → (base < to) ⊎ (x ≡ 0) → (base + 4 < to) ⊎ (y ≡ 0) → (base + 8 < to) ⊎ (z ≡ 0) → StoresBefore v w3 to
+        head_stores to b1 b2 b3 = stores_both v w2 w3 to
+            (stores_both v w1 w2 to (stores_one v w1 to (record { at = base; value = x; behind = length v.readings }) p1.noted b1) (stores_one w1 w2 to (record { at = base + 4; value = y; behind = length w1.readings }) p2.noted b2))
+            (stores_one w2 w3 to (record { at = base + 8; value = z; behind = length w2.readings }) p3.noted b3)
 
         pub head_base : SeesIn w3 m i base x
         head_base = p3.kept base x (λ q. omega arith) (p2.kept base x (λ q. omega arith) p1.here)
@@ -187,9 +193,10 @@ pub record WritesHeaders (v : View) (m i base step k : ℕ) (w : View) : Type 0 
   pub only : OnlySlot v m i w
   pub lows : (j : ℕ) → j < k → SeesIn w m i (base + 12 + step * j) 0
   pub kept : KeepsIn v w m i (base + 12)
+  pub stores : StoresBefore v w (base + 12)
 
 pub no_headers : (v : View) (m i base step room : ℕ) → HasSlotAt v m i base room → WritesHeaders v m i base step 0 v
-no_headers v m i base step room has = record { only = slot_none v m i has.slot has.found; lows = λ j lt. absurd (omega arith); kept = λ a x lt s. s }
+no_headers v m i base step room has = record { only = slot_none v m i has.slot has.found; lows = λ j lt. absurd (omega arith); kept = λ a x lt s. s; stores = stores_none v v (base + 12) refl }
 
 module _ (v w : View) (m i base step room last count k : ℕ) (has : HasSlotAt v m i base room) (whole : base % 16 ≡ 0) (aligned : step % 16 ≡ 0) (least : 16 ≤ step) (headers : HasHeaders step last room count) (less : k < count) (done : WritesHeaders v m i base step k w) where
   still : HasSlotAt w m i base room
@@ -221,6 +228,7 @@ module _ (v w : View) (m i base step room last count k : ℕ) (has : HasSlotAt v
           p.kept (base + 12 + step * j) 0 (λ q. omega arith) (done.lows j earlier))
           (cases_eq j k);
       kept = λ b x lt s. p.kept b x (λ q. omega arith) (done.kept b x lt s);
+      stores = stores_both v w u (base + 12) done.stores (stores_one w u (base + 12) (record { at = base + 12 + step * k; value = 0; behind = length w.readings }) p.noted (inr refl));
     }
 
 pub headers_low : (v w : View) (m i room count k : ℕ) (d : Draft) (step : ℕ) → step ≡ stride (draft_group d) → HasHeaders step d.last room count → count ≤ k → WritesHeaders v m i d.base step k w → AreHeadersLow w m i (draft_group d) room
@@ -236,6 +244,9 @@ module _ (v w : View) (c : Carrier) (d : Draft) (x : ℕ) (has : HasCarrier v c 
 
   pub header_only : OnlySlot v c.meta c.index w
   header_only = header_written.only
+
+  pub header_stores : StoresBefore v w (d.base + 12)
+  header_stores = stores_one v w (d.base + 12) (record { at = d.base - 4; value = x; behind = length v.readings }) header_written.noted (inl (omega arith))
 
   pub header_seen : SeesIn w c.meta c.index (d.base - 4) x
   header_seen = header_written.here

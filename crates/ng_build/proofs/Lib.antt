@@ -4,5 +4,6 @@ pub mod Masks
 pub mod Metas
 pub mod Runs
 pub mod Slots
+pub mod Storing
 pub mod Heads
 pub mod Nestings

@@ -10,20 +10,22 @@ use Rattle.ng_view.specs.Places.{header, slot_end, slot_start, stride, units}
 use Rattle.ng_view.specs.Steps.{in_motion}
 use Rattle.ng_view.specs.declared.view.Group.{Group}
 use Rattle.ng_view.specs.declared.view.Held.{Held}
+use Rattle.ng_view.specs.declared.view.Store.{Store}
 use Rattle.ng_view.specs.declared.view.View.{View}
 use Rattle.ng_meta.specs.Place.{IsMetaPlace}
 use Rattle.ng_view.specs.Groups.{BuildsNested, BuiltMeta, BuiltNested, IsLowHeader, Publishes, slot_published}
 use Rattle.ng_rule.proofs.lock.Knowing.{off_else}
 use Rattle.ng_build.specs.Cells.{IsIdleMeta, knowing}
 use Rattle.ng_build.specs.Drafts.{IsBlankMeta, IsCounted, avail_of, draft_group}
-use Rattle.ng_build.specs.Nestings.{HasCarrier, HasWritten, OnlySlot, PublishesSlot, SeesIn, carrying_header, recalling, with_nested}
+use Rattle.ng_build.specs.Nestings.{AreHeadersLow, HasCarrier, HasWritten, OnlySlot, PublishesSlot, SeesIn, StoresBefore, carrying_header, recalling, with_nested}
 use Rattle.ng_build.specs.declared.draft.Draft.{Draft}
 use Rattle.ng_build.specs.declared.nesting.Carrier.{Carrier}
-use Rattle.ng_build.specs.Written.{AreHeadersLow, KeepsIn, freed_of, with_meta}
+use Rattle.ng_build.specs.Written.{KeepsIn, freed_of, with_meta}
 use Rattle.ng_build.proofs.Cells.{by_cells}
 use Rattle.ng_build.proofs.Heads.{carrier_base}
 use Rattle.ng_build.proofs.Masks.{are_masks, is_bare, moves_first}
 use Rattle.ng_build.proofs.Metas.{built_meta, meta_kept, meta_view, meta_whole, several_plain}
+use Rattle.ng_build.proofs.Storing.{stores_both, stores_less, stores_none}
 use Rattle.ng_build.proofs.Slots.{slot_both, slot_found, without-edit}
 
 -- a nested group is of few units
@@ -96,7 +98,7 @@ module _ (v w1 w2 : View) (c : Carrier) (d : Draft) (blank : IsBlankMeta v d.met
     pub slot_builds : BuildsNested w3 d.meta d.class (avail_of d.active)
     slot_builds = record { group = g; slot = h; freed = freed_of d.active d.last; built = is_built; of_meta = refl; of_class = refl }
 
-    module _ (w : View) (p : Publishes w3 d.meta d.class (avail_of d.active) w) where
+    module _ (w : View) (p : Publishes w3 d.meta d.class (avail_of d.active) w) (noted : StoresBefore v w2 (d.base + 12)) where
       abbrev cs : List (ℕ × ℕ)
       cs = cells_off d.meta (d.meta + 40) w3.desk.cells
 
@@ -117,14 +119,17 @@ module _ (v w1 w2 : View) (c : Carrier) (d : Draft) (blank : IsBlankMeta v d.met
       step_3 = ap (λ (x : View). nested_in x g (0 ∷ []) cs (cond (eqb d.active 0) (d.meta ∷ x.desk.zero_avail) x.desk.zero_avail) h) (meta_view w2 w3 d e3)
 
       -- that view, with other slots behind the group's own
-      behind : View → List Held → View
-      behind x hs = record (knowing (with_nested x c.meta c.index g d.active has.slot) cs x.readings) { held = in_motion g 0 ∷ hs }
+      behind : View → List Held → List Store → View
+      behind x hs ss = record (knowing (with_nested x c.meta c.index g d.active has.slot) cs x.readings) { held = in_motion g 0 ∷ hs; stores = ss }
 
-      step_2 : behind w2 (without has.slot.place.group.meta has.slot.place.index w2.held) ≡ behind v (without c.meta c.index v.held)
+      step_2 : behind w2 (without has.slot.place.group.meta has.slot.place.index w2.held) w2.stores ≡ behind v (without c.meta c.index v.held) w2.stores
       unfolding behind
-      step_2 = ap (behind w2) left_2 ∙ ap (λ (x : View). behind x (without c.meta c.index v.held)) only.view
+      step_2 = ap (λ hs. behind w2 hs w2.stores) left_2 ∙ ap (λ (x : View). behind x (without c.meta c.index v.held) w2.stores) only.view
 
-      is_view : w ≡ knowing (with_nested v c.meta c.index g d.active has.slot) cs v.readings
+      same_stores : w.stores ≡ w2.stores
+      same_stores = ap (λ (x : View). x.stores) is_published ∙ ap (λ (x : View). x.stores) (meta_view w2 w3 d e3)
+
+      is_view : w ≡ record (knowing (with_nested v c.meta c.index g d.active has.slot) cs v.readings) { stores = w.stores }
       unfolding behind
       is_view =
           is_published
@@ -132,12 +137,14 @@ module _ (v w1 w2 : View) (c : Carrier) (d : Draft) (blank : IsBlankMeta v d.met
           ∙ ap (λ b. nested_in w3 g (0 ∷ []) cs (cond b (d.meta ∷ w3.desk.zero_avail) w3.desk.zero_avail) h) (is_bare d.active)
           ∙ step_3
           ∙ step_2
+          ∙ ap (λ (ss : List Store). record (knowing (with_nested v c.meta c.index g d.active has.slot) cs v.readings) { stores = ss }) (sym same_stores)
 
       pub slot_publishes : PublishesSlot v c.meta c.index g d.active w
       slot_publishes = record {
         view = λ k e.
             let q : has.slot ≡ k = cc in
-            by_cells (with_nested v c.meta c.index g d.active k) w cs v.readings (is_view ∙ ap (λ y. knowing (with_nested v c.meta c.index g d.active y) cs v.readings) q);
+            by_cells (record (with_nested v c.meta c.index g d.active k) { stores = w.stores }) w cs v.readings (is_view ∙ ap (λ y. record (knowing (with_nested v c.meta c.index g d.active y) cs v.readings) { stores = w.stores }) q);
+        stores = stores_less v w (d.base + 12) (header g 0) (let e : header g 0 ≡ d.base + 12 = omega arith in omega (arith, e)) (stores_both v w2 w (d.base + 12) noted (stores_none w2 w (d.base + 12) same_stores));
         kept = λ b x out s. subst (λ (y : View). Sees y b x) (sym is_published)
             (off_else d.meta (d.meta + 40) b x w3.desk.cells out (meta_kept w2 w3 d e3 b x out (subst (λ (y : View). Sees y b x) (sym only.view) s)));
       }
@@ -152,3 +159,7 @@ written_kept w1 w2 w3 c d {v} has head kept e3 =
       meta_high = then (d.base + 4) 0 (omega arith) head.meta_high;
       index = then (d.base + 8) d.active (omega arith) head.index;
     }
+
+-- the headers of the slots are still known to be 0, once the meta is written
+pub lows_kept : (w2 w3 : View) (c : Carrier) (d : Draft) → AreHeadersLow w2 c.meta c.index (draft_group d) c.stride → w3 ≡ with_meta w2 d → AreHeadersLow w3 c.meta c.index (draft_group d) c.stride
+lows_kept w2 w3 c d lows e3 = subst (λ (x : View). AreHeadersLow x c.meta c.index (draft_group d) c.stride) (sym (meta_view w2 w3 d e3)) lows

@@ -16,7 +16,7 @@ use Rattle.ng_view.specs.Stores.{Stores}
 use Rattle.ng_rule.proofs.lock.Knowing.{off_else, sees-built}
 use Rattle.ng_build.specs.Cells.{IsIdleMeta, IsIdleRun, OnlyCells, knowing}
 use Rattle.ng_build.specs.Drafts.{FitsRun, IsBlankMeta, IsCounted, avail_of, draft_group}
-use Rattle.ng_build.specs.Runs.{IsMetaOutside, PublishesRun, with_group}
+use Rattle.ng_build.specs.Runs.{AreHeadersZero, IsMetaOutside, PublishesRun, with_group}
 use Rattle.ng_build.specs.declared.draft.Draft.{Draft}
 use Rattle.ng_build.specs.Written.{freed_of, with_meta}
 use Rattle.ng_build.proofs.Areas.{run_cell, run_head}
@@ -100,15 +100,15 @@ module _ (v v1 v2 : View) (d : Draft) (pages : ℕ) (place : IsMetaPlace d.meta 
       in_run : (k y : ℕ) → k < 4096 * d.maplen → Sees v2 (d.base + k) y → Sees v3 (d.base + k) y
       in_run k y lt s = meta_kept v2 v3 d e3 (d.base + k) y (⊎_elim (λ (l : d.meta + 40 ≤ d.base). inr (omega arith)) (λ (l : d.base + 4096 * d.maplen ≤ d.meta). inl (omega arith)) apart) s
 
-      low : (i : ℕ) → i ≤ d.last + 1 → (x : ℕ) × Sees v3 (header g i) x × (x % 256 ≡ 0)
-      low i le =
+      pub run_lows : AreHeadersZero v3 g
+      run_lows i le =
           let below = header_below g i le in
           let fits = reach_of g some shape in
           let cell : (header g i + 4) % 16 ≡ 0 = header_cell g i (omega arith) in
           let k : ℕ = 12 + stride g * i in
           let at : d.base + k ≡ header g i = omega arith in
           let zero : Sees v (d.base + k) 0 = subst (λ n. Sees v n 0) (sym at) (run.clear (header g i) (omega arith) (omega arith, omega arith)) in
-          (0, subst (λ n. Sees v3 n 0) at (in_run k 0 (omega arith) (stays (d.base + k) 0 (inr (omega arith)) (inr (omega arith)) zero)), refl)
+          subst (λ n. Sees v3 n 0) at (in_run k 0 (omega arith) (stays (d.base + k) 0 (inr (omega arith)) (inr (omega arith)) zero))
 
       idle : IsIdleRun v3 d.base d.maplen
       idle = idle_run_only v2 v3 d.base d.maplen (meta_only v2 v3 d e3) (idle_run_only v v2 d.base d.maplen run_2 (record { noted = run.noted; empty = run.empty }))
@@ -138,7 +138,7 @@ module _ (v v1 v2 : View) (d : Draft) (pages : ℕ) (place : IsMetaPlace d.meta 
         flags_high = meta.flags_high;
         base = subst (λ n. Sees v3 n d.meta) (let e : d.base + 0 ≡ d.base = omega arith in e) (in_run 0 d.meta (omega arith) (subst (λ n. Sees v2 n d.meta) (let e : d.base ≡ d.base + 0 = omega arith in e) (sees_else v1 v2 (d.base + 8) d.active d.base d.meta e2 (inl (omega arith)) (sees-built v v1 d.base d.meta e1))));
         base_high = in_run 4 0 (omega arith) (stays (d.base + 4) 0 (inr (omega arith)) (inl (omega arith)) (run.clear (d.base + 4) (omega arith) (omega arith, omega arith)));
-        lows = low;
+        lows = λ i le. (0, run_lows i le, refl);
         small = masks.small;
         masks = masks.apart;
         plain = masks.plain;

@@ -1,12 +1,13 @@
 -- Stores in a slot of the seat: the slot's cells change, and nothing else.
-use Rattle.std.proofs.Common.{◌≡◌, ◌≢◌, ℕ, ◌+◌, ◌%◌, ◌<◌, ◌≤◌, cond, Bool, true, false, List, [], ◌∷◌, refl, sym, ap, ◌∙◌, subst, inl, inr, arith}
+use Rattle.std.proofs.Common.{◌≡◌, ◌≢◌, ℕ, ◌+◌, ◌%◌, ◌<◌, ◌≤◌, cond, Bool, true, false, List, [], ◌∷◌, ◌++◌, length, refl, sym, ap, ◌∙◌, subst, inl, inr, arith}
 use Rattle.std.specs.Prelude.{Some}
 use Rattle.ng_rule.proofs.geometry.Lists.{find_among, find_edit, is_at-true}
 use Rattle.ng_view.specs.Blocks.{Knows}
 use Rattle.ng_view.specs.Lists.{edit, find, is_at, without}
 use Rattle.ng_view.specs.Places.{slot_start, stride}
-use Rattle.ng_view.specs.Steps.{edited, forget, wrote}
+use Rattle.ng_view.specs.Steps.{forget, stored, wrote}
 use Rattle.ng_view.specs.declared.view.Held.{Held}
+use Rattle.ng_view.specs.declared.view.Store.{Store}
 use Rattle.ng_view.specs.declared.view.View.{View}
 use Rattle.ng_view.specs.Stores.{FitsMotion, IsInMotion, Stores}
 use Rattle.ng_rule.proofs.lock.Knowing.{still_known}
@@ -50,7 +51,7 @@ edit-none m i (x ∷ xs) = by_test (edit-none m i xs) (is_at m i x.place)
 pub slot_none : (v : View) (m i : ℕ) (h : Held) → find m i v.held ≡ Some h → OnlySlot v m i v
 slot_none v m i h found = record {
   cells = h.cells;
-  view = ap (λ hs. record v { held = hs }) (sym (edit-same m i (recalling h.cells) (λ y. y) v.held h found refl ∙ edit-none m i v.held));
+  view = ap (λ (hs : List Held). record v { held = hs }) (sym (edit-same m i (recalling h.cells) (λ y. y) v.held h found refl ∙ edit-none m i v.held));
 }
 
 pub slot_both : (v w u : View) (m i : ℕ) → OnlySlot v m i w → OnlySlot w m i u → OnlySlot v m i u
@@ -58,8 +59,8 @@ slot_both v w u m i a b = record {
   cells = b.cells;
   view =
       b.view
-      ∙ ap (λ (x : View). record x { held = edit m i (recalling b.cells) x.held }) a.view
-      ∙ ap (λ hs. record v { held = hs }) (edit-edit m i (recalling b.cells) (recalling a.cells) v.held (λ y. refl));
+      ∙ ap (λ (x : View). record x { held = edit m i (recalling b.cells) x.held; stores = u.stores }) a.view
+      ∙ ap (λ (hs : List Held). record v { held = hs; stores = u.stores }) (edit-edit m i (recalling b.cells) (recalling a.cells) v.held (λ y. refl));
 }
 
 pub slot_found : (v w : View) (m i : ℕ) (h : Held) → find m i v.held ≡ Some h → (o : OnlySlot v m i w) → find m i w.held ≡ Some (recalling o.cells h)
@@ -81,6 +82,7 @@ pub record Writes (v : View) (m i a x : ℕ) (w : View) : Type 0 where
   pub only : OnlySlot v m i w
   pub here : SeesIn w m i a x
   pub kept : (b y : ℕ) → b ≢ a → SeesIn v m i b y → SeesIn w m i b y
+  pub noted : w.stores ≡ v.stores ++ record { at = a; value = x; behind = length v.readings } ∷ []
 
 module _ (v : View) (m i base room : ℕ) (has : HasSlotAt v m i base room) (a : ℕ) (whole : a % 4 ≡ 0) (from : base ≤ a + 4) (below : a + 4 < base + room) where
   abbrev h : Held
@@ -105,9 +107,17 @@ module _ (v : View) (m i base room : ℕ) (has : HasSlotAt v m i base room) (a :
   slot_fits x low = record { cell = cell; low = λ e. low (e ∙ sym has.begins) }
 
   module _ (w : View) (x : ℕ) (told : Stores v a x w) where
-    is : w ≡ edited v m i a x
+    is : w ≡ stored v m i a x
     unfolding cell
-    is = told.slot cell ∙ ap (λ n. edited v n h.place.index a x) at_meta ∙ ap (λ n. edited v m n a x) at_index
+    is = told.slot cell ∙ ap (λ n. stored v n h.place.index a x) at_meta ∙ ap (λ n. stored v m n a x) at_index
+
+    noted : w.stores ≡ v.stores ++ record { at = a; value = x; behind = length v.readings } ∷ []
+    noted = ap (λ (y : View). y.stores) is
+
+    edited_so : w ≡ record v { held = edit m i (recalling ((a, x) ∷ forget a h.cells)) v.held; stores = w.stores }
+    edited_so = is
+        ∙ ap (λ (hs : List Held). record v { held = hs; stores = v.stores ++ record { at = a; value = x; behind = length v.readings } ∷ [] }) (edit-same m i (wrote a x) (recalling ((a, x) ∷ forget a h.cells)) v.held h has.found refl)
+        ∙ ap (λ (ss : List Store). record v { held = edit m i (recalling ((a, x) ∷ forget a h.cells)) v.held; stores = ss }) (sym noted)
 
     found_then : find m i w.held ≡ Some (wrote a x h)
     found_then = ap (λ (y : View). find m i y.held) is ∙ find_edit m i (wrote a x) v.held h (λ y. refl) has.found
@@ -119,8 +129,9 @@ module _ (v : View) (m i base room : ℕ) (has : HasSlotAt v m i base room) (a :
     slot_writes = record {
       only = record {
         cells = (a, x) ∷ forget a h.cells;
-        view = is ∙ ap (λ hs. record v { held = hs }) (edit-same m i (wrote a x) (recalling ((a, x) ∷ forget a h.cells)) v.held h has.found refl);
+        view = edited_so;
       };
       here = λ k e. subst (Knows a x) (sym (the_slot k e)) (inl refl);
       kept = λ b y ne sees k e. subst (Knows b y) (sym (the_slot k e)) (inr (still_known a b y h.cells ne (sees h has.found)));
+      noted = noted;
     }

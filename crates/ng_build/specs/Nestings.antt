@@ -1,13 +1,14 @@
 -- A group that comes to live in a slot of another.
-use Rattle.std.specs.Prelude.{◌≡◌, ℕ, ◌+◌, ◌-◌, ◌/◌, ◌<◌, ◌≤◌, eqb, cond, List, ◌∷◌, Some}
+use Rattle.std.specs.Prelude.{◌≡◌, ◌⊎◌, ℕ, ◌+◌, ◌-◌, ◌*◌, ◌/◌, ◌<◌, ◌≤◌, eqb, cond, All, List, ◌∷◌, ◌++◌, Some}
 use Rattle.ng_header.specs.Header.{cell_with}
 use Rattle.ng_view.specs.Blocks.{Knows}
 use Rattle.ng_view.specs.Layouts.{IsNested}
 use Rattle.ng_view.specs.Lists.{edit, find, without}
-use Rattle.ng_view.specs.Places.{reach, slot_start, stride}
+use Rattle.ng_view.specs.Places.{header, reach, slot_start, stride}
 use Rattle.ng_view.specs.Steps.{in_motion}
 use Rattle.ng_view.specs.declared.view.Group.{Group}
 use Rattle.ng_view.specs.declared.view.Held.{Held}
+use Rattle.ng_view.specs.declared.view.Store.{Store}
 use Rattle.ng_view.specs.declared.view.View.{View}
 use Rattle.ng_build.specs.declared.nesting.Carrier.{Carrier}
 use Rattle.ng_build.specs.Cells.{KeepsOutside, knowing}
@@ -16,10 +17,16 @@ use Rattle.ng_build.specs.Cells.{KeepsOutside, knowing}
 abbrev pub recalling : List (ℕ × ℕ) → Held → Held
 recalling cells h = record h { cells = cells }
 
--- w is v but for what is known of the cells of one slot
+-- w is v but for what is known of the cells of one slot, and for what was stored
 pub record OnlySlot (v : View) (meta index : ℕ) (w : View) : Type 0 where
   pub cells : List (ℕ × ℕ)
-  pub view : w ≡ record v { held = edit meta index (recalling cells) v.held }
+  pub view : w ≡ record v { held = edit meta index (recalling cells) v.held; stores = w.stores }
+
+-- each store that came lies before an address, or is of 0
+pub record StoresBefore (v w : View) (to : ℕ) : Type 0 where
+  pub more : List Store
+  pub stores : w.stores ≡ v.stores ++ more
+  pub each : All (λ store. (store.at < to) ⊎ (store.value ≡ 0)) more
 
 -- the cell at a is known to have the value x, in that slot of the seat
 abbrev pub SeesIn : View → ℕ → ℕ → ℕ → ℕ → Type 0
@@ -50,6 +57,11 @@ pub record HasWritten (v : View) (c : Carrier) (base meta active : ℕ) : Type 0
   pub meta_high : SeesIn v c.meta c.index (base + 4) 0
   pub index : SeesIn v c.meta c.index (base + 8) active
 
+-- the header cells of a group are known to be 0, but for the one at the carrier's end
+abbrev pub AreHeadersLow : View → ℕ → ℕ → Group → ℕ → Type 0
+AreHeadersLow v meta index g room = (i : ℕ) → i ≤ g.last + 1
+    → SeesIn v meta index (header g i) 0 ⊎ (16 + stride g * i ≡ room)
+
 -- the seat has the slot, which begins there and has the three cells of a group's head
 pub record HasHead (v : View) (meta index base : ℕ) : Type 0 where
   pub slot : Held
@@ -75,8 +87,9 @@ with_nested v meta index g active h = record v {
 }
 
 -- the group is live in the slot of that meta and index: what was known of cells outside its own meta
--- still is
+-- still is, and in its slots only 0 was stored
 pub record PublishesSlot (v : View) (meta index : ℕ) (g : Group) (active : ℕ) (w : View) : Type 0 where
   pub view : (h : Held) → find meta index v.held ≡ Some h
-      → w ≡ knowing (with_nested v meta index g active h) w.desk.cells v.readings
+      → w ≡ record (knowing (with_nested v meta index g active h) w.desk.cells v.readings) { stores = w.stores }
   pub kept : KeepsOutside v w g.meta (g.meta + 40)
+  pub stores : StoresBefore v w (header g 0)

@@ -1,6 +1,7 @@
 -- A group that comes to live on a run of its own.
 use Rattle.std.specs.Prelude.{◌≡◌, ◌⊎◌, ℕ, ◌+◌, ◌*◌, ◌<◌, ◌≤◌, eqb, cond, ◌∷◌}
 use Rattle.ng_view.specs.Conditions.{Sees}
+use Rattle.ng_view.specs.Places.{header}
 use Rattle.ng_view.specs.Steps.{in_motion}
 use Rattle.ng_view.specs.declared.view.Group.{Group}
 use Rattle.ng_view.specs.declared.view.View.{View}
@@ -17,6 +18,10 @@ with_group v g active = record v {
     zero_avail = cond (eqb active 0) (g.meta ∷ v.desk.zero_avail) v.desk.zero_avail;
   };
 }
+
+-- the header cells of a group's slots, and the one behind the last, are known to be 0
+abbrev pub AreHeadersZero : View → Group → Type 0
+AreHeadersZero v g = (i : ℕ) → i ≤ g.last + 1 → Sees v (header g i) 0
 
 -- a meta's cells lie before these addresses, or behind them
 abbrev pub IsMetaOutside : ℕ → ℕ → ℕ → Type 0

@@ -2,8 +2,6 @@
 use Rattle.std.specs.Prelude.{◌≡◌, ◌⊎◌, ℕ, ◌+◌, ◌-◌, ◌*◌, ◌<◌, ◌≤◌}
 use Rattle.ng_class.specs.Mask.{all_bits_of}
 use Rattle.ng_view.specs.LockSteps.{built}
-use Rattle.ng_view.specs.Places.{header, stride}
-use Rattle.ng_view.specs.declared.view.Group.{Group}
 use Rattle.ng_view.specs.declared.view.View.{View}
 use Rattle.ng_build.specs.declared.draft.Draft.{Draft}
 use Rattle.ng_build.specs.Nestings.{SeesIn}
@@ -29,11 +27,6 @@ with_meta v d =
 pub record HasHeaders (step last room count : ℕ) : Type 0 where
   pub own : (i : ℕ) → i < count → 16 + step * i < room
   pub all : (i : ℕ) → i ≤ last + 1 → (i < count) ⊎ (16 + step * i ≡ room)
-
--- the header cells of a group are known to be 0, but for the one at the carrier's end
-abbrev pub AreHeadersLow : View → ℕ → ℕ → Group → ℕ → Type 0
-AreHeadersLow v meta index g room = (i : ℕ) → i ≤ g.last + 1
-    → SeesIn v meta index (header g i) 0 ⊎ (16 + stride g * i ≡ room)
 
 -- what v knows of the slot's cells below an address, w knows too
 abbrev pub KeepsIn : View → View → ℕ → ℕ → ℕ → Type 0

@@ -2,8 +2,8 @@ ghost use Rattle.std.specs.Prelude.{◌≡◌, ◌+◌, ◌*◌, ◌%◌, ◌^�
 ghost use Rattle.ng_meta.specs.Place.{IsMetaPlace};
 ghost use Rattle.ng_view.specs.Groups.{MayPublish, Publishes};
 ghost use Rattle.ng_build.specs.Drafts.{IsBlankMeta, IsCounted, avail_of, draft_group};
-ghost use Rattle.ng_build.specs.Nestings.{HasCarrier, HasHead, HasWritten, OnlySlot, PublishesSlot, SeesIn};
-ghost use Rattle.ng_build.specs.Written.{AreHeadersLow, HasHeaders, KeepsIn};
+ghost use Rattle.ng_build.specs.Nestings.{AreHeadersLow, HasCarrier, HasHead, HasWritten, OnlySlot, PublishesSlot, SeesIn, StoresBefore};
+ghost use Rattle.ng_build.specs.Written.{HasHeaders, KeepsIn};
 
 use crate::draft::{Draft, write_meta};
 use ng_class::{IB, UNIT, stride};
@@ -51,8 +51,8 @@ pub fn publish_slot<N: Name>(
     publish_carried(space, seat, draft, parent);
 }
 
-/// Makes a group live that is written in its carrier, whose header and head are known: a group that
-/// lives in a slot began with them.
+/// Makes a group live that is written in its carrier, whose header and head are known, and that its slots' headers are
+/// 0: a group that lives in a slot began with these.
 pub fn publish_carried<N: Name>(
     space: &Space<N>,
     seat: &mut LockSeat<N>,
@@ -63,6 +63,7 @@ pub fn publish_carried<N: Name>(
     requires counted { IsCounted draft.now }
     requires built { MayPublish seat.old draft.now.meta draft.now.class (avail_of draft.now.active) }
     requires written { HasWritten seat.old _parent.now draft.now.base draft.now.meta draft.now.active }
+    requires lows { AreHeadersLow seat.old _parent.now.meta _parent.now.index (draft_group draft.now) _parent.now.stride }
     ensures { Publishes seat.old draft.now.meta draft.now.class (avail_of draft.now.active) seat.new }
 {
     space.publish(seat, draft.meta, draft.class, draft.avail());
@@ -81,6 +82,7 @@ pub fn write_head<N: Name>(
     requires carrier { HasCarrier seat.old parent.now (draft_group draft.now) }
     ensures view { OnlySlot seat.old parent.now.meta parent.now.index seat.new }
     ensures written { HasWritten seat.new parent.now draft.now.base draft.now.meta draft.now.active }
+    ensures stores { StoresBefore seat.old seat.new (draft.now.base + 12) }
 {
     let offset = (draft.base - parent.storage) / UNIT;
     let header = Ib {
@@ -104,6 +106,7 @@ fn write_headers<N: Name>(space: &Space<N>, seat: &mut LockSeat<N>, draft: &Draf
     ensures view { OnlySlot seat.old parent.now.meta parent.now.index seat.new }
     ensures lows { AreHeadersLow seat.new parent.now.meta parent.now.index (draft_group draft.now) parent.now.stride }
     ensures kept { KeepsIn seat.old seat.new parent.now.meta parent.now.index (draft.now.base + 12) }
+    ensures stores { StoresBefore seat.old seat.new (draft.now.base + 12) }
 {
     let step = stride(draft.class, draft.last, 0);
     for i in 0..own_headers(step, draft.last, parent.stride) {
@@ -138,6 +141,7 @@ pub fn clear_head<N: Name>(
     ensures zero { SeesIn seat.new meta index base 0 }
     ensures zero_high { SeesIn seat.new meta index (base + 4) 0 }
     ensures zero_active { SeesIn seat.new meta index (base + 8) 0 }
+    ensures stores { StoresBefore seat.old seat.new 0 }
 {
     space.store_page(seat, base, 0);
     space.store_page(seat, base + META_HIGH, 0);

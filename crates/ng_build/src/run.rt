@@ -4,7 +4,7 @@ ghost use Rattle.ng_view.specs.Conditions.{Sees};
 ghost use Rattle.ng_view.specs.Groups.{MayPublish, Publishes};
 ghost use Rattle.ng_view.specs.Notes.{IsClearedRun};
 ghost use Rattle.ng_build.specs.Drafts.{FitsRun, IsBlankMeta, IsCounted, avail_of, draft_group};
-ghost use Rattle.ng_build.specs.Runs.{IsMetaOutside, PublishesRun};
+ghost use Rattle.ng_build.specs.Runs.{AreHeadersZero, IsMetaOutside, PublishesRun};
 
 use crate::draft::{Draft, write_meta};
 use ng_meta::ACTIVE;
@@ -30,13 +30,14 @@ pub fn publish_run<N: Name>(space: &Space<N>, seat: &mut LockSeat<N>, draft: &Dr
     publish_mapped(space, seat, draft);
 }
 
-/// Makes a group live that is written on its run, whose active index is known: a group that lives on
-/// a run began with it.
+/// Makes a group live that is written on its run, whose active index is known, and that its slots' headers are 0: a
+/// group that lives on a run began with these.
 pub fn publish_mapped<N: Name>(space: &Space<N>, seat: &mut LockSeat<N>, draft: &Draft)
     requires place { IsMetaPlace draft.now.meta N.facts.start.pages }
     requires counted { IsCounted draft.now }
     requires built { MayPublish seat.old draft.now.meta draft.now.class (avail_of draft.now.active) }
     requires index { Sees seat.old (draft.now.base + 8) draft.now.active }
+    requires lows { AreHeadersZero seat.old (draft_group draft.now) }
     ensures { Publishes seat.old draft.now.meta draft.now.class (avail_of draft.now.active) seat.new }
 {
     space.publish(seat, draft.meta, draft.class, draft.avail());

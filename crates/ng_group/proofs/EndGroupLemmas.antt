@@ -19,7 +19,7 @@ use Rattle.ng_view.specs.declared.view.Start.{Start}
 use Rattle.ng_view.specs.declared.view.View.{View}
 use Rattle.ng_build.specs.Areas.{without_run}
 use Rattle.ng_build.specs.Cells.{IsIdleRun, KeepsOutside, OnlyCells, ReadsWithin, knowing}
-use Rattle.ng_build.specs.Nestings.{HasHead, OnlySlot, recalling}
+use Rattle.ng_build.specs.Nestings.{HasHead, OnlySlot, StoresBefore, recalling}
 use Rattle.ng_mask.specs.Fetches.{OfGroup}
 use Rattle.ng_ledger.specs.Metas.{IsBlankMeta, Keeps}
 use Rattle.ng_ledger.specs.Standing.{KeepsHand, Ledger}
@@ -181,8 +181,8 @@ module _ {M P : Type 0} {start : Start} {span : M → Span} {runs : M → List m
       slot_head = has_head start.pages e.mid.seat meta e.works.stands.groups e.whole of_slot p i meta_is index_is t.seat found.base (ap (λ (v : View). v.held) seat_is) (sym e.is.base ∙ of_slot.begins) (let fits = of_slot.fits in omega arith)
 
       module _ (w : View) (only : OnlySlot t.seat p i w) where
-        cleared_is : w ≡ record (knowing (retired_nested e.mid.seat meta) t.seat.desk.cells t.seat.readings) { held = edit p i (recalling only.cells) (retired_nested e.mid.seat meta).held }
-        cleared_is = only.view ∙ ap (λ (v : View). record v { held = edit p i (recalling only.cells) v.held }) seat_is
+        cleared_is : w ≡ record (knowing (retired_nested e.mid.seat meta) t.seat.desk.cells t.seat.readings) { held = edit p i (recalling only.cells) (retired_nested e.mid.seat meta).held; stores = w.stores }
+        cleared_is = only.view ∙ ap (λ (v : View). record v { held = edit p i (recalling only.cells) v.held; stores = w.stores }) seat_is
 
         groups_are : w.desk.groups ≡ groups_but meta e.mid.seat.desk.groups
         groups_are = ap (λ (v : View). v.desk.groups) cleared_is
@@ -198,11 +198,11 @@ module _ {M P : Type 0} {start : Start} {span : M → Span} {runs : M → List m
 
         pub slot_state : IsWorking start (span t.mapper) (runs t.mapper) (refused t.mapper) (record (ledger_of t) { seat = w })
         slot_state = subst (λ (x : State M P). IsWorking start (span x.mapper) (runs x.mapper) (refused x.mapper) (record (ledger_of x) { seat = w })) (sym e.ends.state)
-            (nested_works start (span e.mid.mapper) (runs e.mid.mapper) (refused e.mid.mapper) (ledger_of e.mid) e.works meta e.whole nested e.absent w t.seat.desk.cells t.seat.readings (edit p i (recalling only.cells) (retired_nested e.mid.seat meta).held) t.usage cleared_is kept e.ends.used)
+            (nested_works start (span e.mid.mapper) (runs e.mid.mapper) (refused e.mid.mapper) (ledger_of e.mid) e.works meta e.whole nested e.absent w t.seat.desk.cells t.seat.readings (edit p i (recalling only.cells) (retired_nested e.mid.seat meta).held) w.stores t.usage cleared_is kept e.ends.used)
 
         pub slot_in_hand : AreLaid (span e.mid.mapper) (runs e.mid.mapper) → IsSpan (span e.mid.mapper) → ComesInHand meta (ledger_of old) (record (ledger_of t) { seat = w })
         slot_in_hand laid bounded = comes_then meta (ledger_of old) (ledger_of e.mid) (record (ledger_of t) { seat = w }) (only_hand found.class old e.mid e.only) (subst (λ (x : State M P). ComesInHand meta (ledger_of e.mid) (record (ledger_of x) { seat = w })) (sym e.ends.state)
-            (nested_hand start (span e.mid.mapper) (runs e.mid.mapper) (refused e.mid.mapper) (ledger_of e.mid) e.works meta e.whole nested e.absent w t.seat.desk.cells t.seat.readings (edit p i (recalling only.cells) (retired_nested e.mid.seat meta).held) t.usage cleared_is kept laid bounded clear))
+            (nested_hand start (span e.mid.mapper) (runs e.mid.mapper) (refused e.mid.mapper) (ledger_of e.mid) e.works meta e.whole nested e.absent w t.seat.desk.cells t.seat.readings (edit p i (recalling only.cells) (retired_nested e.mid.seat meta).held) w.stores t.usage cleared_is kept laid bounded clear))
 
 -- ---- how the group ended is told
 
@@ -226,13 +226,13 @@ module _ {M P : Type 0} {old mid told t : State M P} (runs : M → List mapper.R
     slot = tt;
   }
 
-  pub ends_slot : (p i : ℕ) (w : View) → found.maplen ≡ 0 → parent_of t.parents meta ≡ Some (p, i) → OnlySlot t.seat p i w
+  pub ends_slot : (p i : ℕ) (w : View) → found.maplen ≡ 0 → parent_of t.parents meta ≡ Some (p, i) → OnlySlot t.seat p i w → StoresBefore t.seat w 0
       → Ends runs meta found (Some (p, i)) old (record t { seat = w })
-  ends_slot p i w pageless carries only = record {
+  ends_slot p i w pageless carries only stores = record {
     unlisted = mid;
     retired = t;
     leaves = leaves;
     ends = subst (EndsGroup meta mid) (sym same) ended;
     run = tt;
-    slot = record { pageless = pageless; carries = carries; only = only; state = refl };
+    slot = record { pageless = pageless; carries = carries; only = only; stores = stores; state = refl };
   }

@@ -16,6 +16,7 @@ use Rattle.ng_view.specs.LockSteps.{groups_but, retired_nested, runs_but}
 use Rattle.ng_view.specs.declared.view.Held.{Held}
 use Rattle.ng_view.specs.declared.view.Layout.{Layout}
 use Rattle.ng_view.specs.declared.view.Start.{Start}
+use Rattle.ng_view.specs.declared.view.Store.{Store}
 use Rattle.ng_view.specs.declared.view.View.{View}
 use Rattle.ng_build.specs.Areas.{without_run}
 use Rattle.ng_build.specs.Cells.{knowing}
@@ -91,7 +92,7 @@ module _ (start : Start) (span : Span) (live : List mapper.Run) (refused : Refus
   others_clear laid bounded cells kept m apart area = blank_kept l.seat.desk.cells cells meta (meta + 40) m kept (places_apart start.pages m meta (area_place laid bounded m area) whole_place apart)
 
   -- ---- a group in a slot
-  module _ (nested : whole.group.maplen ≡ 0) (absent : ¬ IsListed l.rings meta) (w : View) (cells readings : List (ℕ × ℕ)) (held : List Held) (usage : List ℕ) (is : w ≡ record (knowing (retired_nested l.seat meta) cells readings) { held = held }) (kept : Keeps l.seat.desk.cells cells meta (meta + 40)) where
+  module _ (nested : whole.group.maplen ≡ 0) (absent : ¬ IsListed l.rings meta) (w : View) (cells readings : List (ℕ × ℕ)) (held : List Held) (stores : List Store) (usage : List ℕ) (is : w ≡ record (knowing (retired_nested l.seat meta) cells readings) { held = held; stores = stores }) (kept : Keeps l.seat.desk.cells cells meta (meta + 40)) where
     pub nested_works : AreUsed (groups_but meta l.seat.desk.groups) usage → IsWorking start span live refused (record l { seat = w; usage = usage })
     nested_works used = subst (λ (x : View). IsWorking start span live refused (record l { seat = x; usage = usage })) (sym is) (record {
       space = record { lower = works.space.lower; upper = works.space.upper; size = works.space.size; rings = works.space.rings; stock = works.space.stock; parents = works.space.parents };
@@ -119,7 +120,7 @@ module _ (start : Start) (span : Span) (live : List mapper.Run) (refused : Refus
 
     pub nested_hand : AreLaid span live → IsSpan span → IsBlankMeta cells meta → ComesInHand meta l (record l { seat = w; usage = usage })
     nested_hand laid bounded clear = subst (λ (x : View). ComesInHand meta l (record l { seat = x; usage = usage })) (sym is)
-        (comes_in_hand (record l { seat = record (knowing (retired_nested l.seat meta) cells readings) { held = held }; usage = usage }) refl refl (λ q t area. t) (λ q t area. t) clear (others_clear laid bounded cells kept))
+        (comes_in_hand (record l { seat = record (knowing (retired_nested l.seat meta) cells readings) { held = held; stores = stores }; usage = usage }) refl refl (λ q t area. t) (λ q t area. t) clear (others_clear laid bounded cells kept))
 
   -- ---- a group on a run
   module _ (paged : 0 < whole.group.maplen) (laid : AreLaid span live) where

@@ -36,3 +36,4 @@ pub mod CallLemmas
 pub mod AskedLemmas
 pub mod LoneAskedLemmas
 pub mod TestLemmas
+pub mod UntouchedLemmas

@@ -269,6 +269,9 @@ module _ {start : Start} {span span' : Span} {live live' : List mapper.Run} {was
   groups_alone : w.desk.groups ≡ g ∷ l.seat.desk.groups
   groups_alone = ap (λ (x : View). x.desk.groups) view
 
+  pub stores_alone : w.stores ≡ l.seat.stores
+  stores_alone = ap (λ (x : View). x.stores) view
+
   pub served_alone : (bytes : ℕ) → l.seat.held ≡ [] → bytes + 20 ≤ 4096 * g.maplen → HasServed 63 bytes w g.meta 0
   served_alone bytes idle fits = record {
     group = g;

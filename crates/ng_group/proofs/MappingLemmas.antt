@@ -328,6 +328,9 @@ module _ {start : Start} {span span' : Span} {live live' : List mapper.Run} {was
   pub groups_mapped : w.desk.groups ≡ g ∷ l.seat.desk.groups
   groups_mapped = ap (λ (x : View). x.desk.groups) view
 
+  pub stores_mapped : w.stores ≡ l.seat.stores
+  stores_mapped = ap (λ (x : View). x.stores) view
+
   pub motion_mapped : l.seat.held ≡ [] → w.held ≡ in_motion g 0 ∷ []
   motion_mapped idle = ap (λ (x : View). x.held) view ∙ ap (λ hs. in_motion g 0 ∷ hs) idle
 

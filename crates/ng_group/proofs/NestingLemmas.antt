@@ -4,7 +4,8 @@ use Rattle.std.proofs.Math.Nat.{min-le_left, mul-le-mul_left}
 use Rattle.std.proofs.lemmas.Bool.{eq-eqb}
 use Rattle.ng_build.specs.Cells.{knowing}
 use Rattle.ng_build.specs.Drafts as draft
-use Rattle.ng_build.specs.Nestings.{HasCarrier, PublishesSlot, with_nested}
+use Rattle.ng_build.specs.Nestings.{HasCarrier, PublishesSlot, StoresBefore, with_nested}
+use Rattle.ng_build.proofs.Storing.{stores_both, stores_less, stores_none}
 use Rattle.ng_class.specs.Class.{IsLeastClass, units_of}
 use Rattle.ng_class.specs.Slot.{IsGroupClass, stride_of}
 use Rattle.ng_class.proofs.Slots.{room_of_slot, stride_of_nested}
@@ -12,6 +13,7 @@ use Rattle.ng_group.specs.Building.{HasInHand, with_used}
 use Rattle.ng_group.specs.Serving.{HasServed}
 use Rattle.ng_group.specs.States.{AreFollowed, IsWorking, State, ledger_of}
 use Rattle.ng_group.specs.Steps.{GoesOn, HandsOver, LeavesBelow}
+use Rattle.ng_group.specs.Untouched.{IsUntouched}
 use Rattle.ng_group.proofs.BuildingLemmas.{rings_below, usage_below, zero_grows}
 use Rattle.ng_group.proofs.MappingLemmas.{MayBuild, absent, may_build}
 use Rattle.ng_group.proofs.WordLemmas.{followed_first}
@@ -44,7 +46,7 @@ use Rattle.ng_view.specs.Conditions.{IsUnborn, Sees}
 use Rattle.ng_view.specs.Layouts.{InArea, IsNested}
 use Rattle.ng_view.specs.Lists.{Among, find, without}
 use Rattle.ng_view.specs.LockSteps.{active_set}
-use Rattle.ng_view.specs.Places.{reach, room, size_of, stride}
+use Rattle.ng_view.specs.Places.{header, reach, room, size_of, stride}
 use Rattle.ng_view.specs.Steps.{in_motion, read}
 use Rattle.ng_view.specs.declared.view.Group.{Group}
 use Rattle.ng_view.specs.declared.view.Layout.{Layout}
@@ -182,6 +184,9 @@ module _ {start : Start} {span : Span} {live : List mapper.Run} {refused : Refus
             let held : u.held ≡ in_motion p index ∷ [] = ap (λ (x : View). x.held) reads.view ∙ served.motion in
             subst (λ hs. find parent index hs ≡ Some (in_motion p index)) (sym held) (found_alone p parent index served.of_meta)
 
+        pub slot_begins : g.base ≡ p.base + 16 + stride p * index
+        slot_begins = begins ∙ ap (λ s. found.base + 16 + s * index) step_same ∙ ap (λ b. b + 16 + stride p * index) (sym describes.base)
+
         pub has_carrier : HasCarrier u (record { meta = parent; index = index; storage = found.base + 16; stride = step }) g
         has_carrier = record {
           slot = in_motion p index;
@@ -190,7 +195,7 @@ module _ {start : Start} {span : Span} {live : List mapper.Run} {refused : Refus
           step = step_same;
           within = served.within;
           few = carrier_group.few;
-          begins = begins ∙ ap (λ s. found.base + 16 + s * index) step_same ∙ ap (λ b. b + 16 + stride p * index) (sym describes.base);
+          begins = slot_begins;
           nested = slot_nested;
           fits = slot_fits;
           lower = omega (arith, of_class, served.of_class, above);
@@ -261,7 +266,7 @@ module _ {start : Start} {span : Span} {live : List mapper.Run} {refused : Refus
   seen = read (read l.seat (parent + 16) c.reads.mem) (parent + 32) c.reads.flags
 
   abbrev shown : View
-  shown = knowing (with_nested seen parent index g active (in_motion p index)) w.desk.cells seen.readings
+  shown = record (knowing (with_nested seen parent index g active (in_motion p index)) w.desk.cells seen.readings) { stores = w.stores }
 
   -- the books after it, where the seat has that view
   abbrev pub after_slot : View → Ledger
@@ -280,7 +285,7 @@ module _ {start : Start} {span : Span} {live : List mapper.Run} {refused : Refus
       subst (λ hs. find parent index hs ≡ Some (in_motion p index)) (sym held) (found_alone p parent index c.of_parent)
 
   view : w ≡ shown
-  view = c.publishes.view (in_motion p index) found ∙ ap (λ (x : View). knowing (with_nested x parent index g active (in_motion p index)) w.desk.cells x.readings) c.reads.view
+  view = c.publishes.view (in_motion p index) found ∙ ap (λ (x : View). record (knowing (with_nested x parent index g active (in_motion p index)) w.desk.cells x.readings) { stores = w.stores }) c.reads.view
 
   kept : (b x : ℕ) → (b < g.meta) ⊎ (g.meta + 40 ≤ b) → Sees l.seat b x → Sees w b x
   kept b x off_meta sees = c.publishes.kept b x off_meta (subst (λ (y : View). Sees y b x) (sym c.reads.view) sees)
@@ -410,3 +415,24 @@ module _ {start : Start} {span : Span} {live : List mapper.Run} {refused : Refus
 
   pub nests_nested : w.desk.layout.nests ≡ record { place = place; child = g.meta } ∷ l.seat.desk.layout.nests
   nests_nested = ap (λ (x : View). x.desk.layout.nests) view
+
+  -- in the new slot nothing but 0 was stored, where so it was of the one that carries the group
+  module _ (there : Among p l.seat.desk.groups) (begins : g.base ≡ p.base + 16 + stride p * index) (before : View) (unborn : IsUnborn before g.meta) (carrier : IsUntouched parent index before l.seat) where
+    read_same : u.stores ≡ l.seat.stores
+    read_same = ap (λ (x : View). x.stores) c.reads.view
+
+    wrote_low : StoresBefore l.seat (active_set w class g.meta) (header g 0)
+    wrote_low = stores_both l.seat u (active_set w class g.meta) (header g 0) (stores_none l.seat u (header g 0) read_same)
+        (stores_both u w (active_set w class g.meta) (header g 0) c.publishes.stores (stores_none w (active_set w class g.meta) (header g 0) refl))
+
+    pub untouched_nested : IsUntouched g.meta 0 before (active_set w class g.meta)
+    untouched_nested = record {
+      standing = λ has. absurd (unborn has.group has.there has.of_meta);
+      fresh = λ k in' of. ⊎_elim
+          (λ (same : k ≡ g). subst (λ (x : Group). StoresBefore before (active_set w class g.meta) (header x 0)) (sym same)
+          (stores_both before l.seat (active_set w class g.meta) (header g 0)
+          (stores_less before l.seat (header p index) (header g 0) (omega (arith, begins)) (carrier.fresh p there c.of_parent))
+          wrote_low))
+          (λ (old : Among k l.seat.desk.groups). absurd (c.free.unborn k old of))
+          (subst (Among k) groups_nested in');
+    }

@@ -10,7 +10,7 @@ use Rattle.ng_view.specs.declared.view.View.{View}
 use Rattle.ng_view.specs.Groups.{Retires}
 use Rattle.ng_build.specs.Areas.{without_run}
 use Rattle.ng_build.specs.Cells.{AreZero, KeepsOutside, OnlyCells, ReadsWithin}
-use Rattle.ng_build.specs.Nestings.{OnlySlot}
+use Rattle.ng_build.specs.Nestings.{OnlySlot, StoresBefore}
 use Rattle.ng_ledger.specs.Rings.{IsIn, left}
 use Rattle.ng_ledger.specs.Usage.{AreUsed}
 use Rattle.ng_serve.specs.Takes.{StocksInUse}
@@ -71,11 +71,13 @@ pub record DropsRun {M P : Type 0} (runs : M → List mapper.Run) (found : LiveG
   pub removes : mapper.RemovesRun (runs before.mapper) (runs after.mapper) (found.base, found.maplen)
   pub gone : ¬ Contains (runs after.mapper) (found.base, found.maplen)
 
--- the slot that carried a group which ended is told: nothing changed but what is known of its cells
+-- the slot that carried a group which ended is told: nothing changed but what is known of its cells, in which nothing but 0
+-- was stored
 pub record FreesSlot {M P : Type 0} (meta : ℕ) (found : LiveGroup) (slot : ℕ × ℕ) (before after : State M P) : Type 0 where
   pub pageless : found.maplen ≡ 0
   pub carries : parent_of before.parents meta ≡ Some slot
   pub only : OnlySlot before.seat slot.0 slot.1 after.seat
+  pub stores : StoresBefore before.seat after.seat 0
   pub state : after ≡ record before { seat = after.seat }
 
 -- a group whose slots are all in the seat left its ring and is no more; then its run went, or the slot that carried it is

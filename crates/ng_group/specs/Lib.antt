@@ -4,6 +4,7 @@ pub mod Serving
 pub mod Building
 pub mod Returning
 pub mod Hands
+pub mod Untouched
 pub mod Lone
 pub mod Opening
 pub mod ClassFor

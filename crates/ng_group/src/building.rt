@@ -7,12 +7,15 @@ ghost use Rattle.ng_policy.specs.Bounce.{accounted, stepped};
 ghost use Rattle.ng_ledger.specs.Rings.{IsBare, entered_first};
 ghost use Rattle.ng_ledger.specs.Standing.{KeepsHand};
 ghost use Rattle.ng_lists.specs.Rings.{IsListed};
+ghost use Rattle.ng_view.specs.Conditions.{IsUnborn};
 ghost use Rattle.ng_view.specs.LockSteps.{active_set};
 ghost use Rattle.ng_view.specs.Notes.{plain_run};
+ghost use Rattle.ng_view.specs.declared.view.View.{View};
 ghost use Rattle.ng_shelf.specs.Shape.{IsNestedSize, shape_of};
 ghost use Rattle.ng_group.specs.Building.{HasBuilt, HasInHand, IsCarriedBy, LeavesAll, with_used};
 ghost use Rattle.ng_group.specs.Serving.{HasServed};
 ghost use Rattle.ng_group.specs.States.{Working, ledger_of};
+ghost use Rattle.ng_group.specs.Untouched.{IsUntouched};
 ghost use Rattle.ng_group.specs.Steps.{GoesOn, HandsOver, IsCalm, IsRefused, LeavesBelow};
 
 use crate::words::count_run;
@@ -53,6 +56,7 @@ impl<N: Name, M: Mapper, P: Rules> Works<N, M, P> {
         ensures built { OnOk result (HasBuilt meta ask.now.class (shape_of ask.now bytes count).count self.old self.new) }
         ensures served { OnOk result (HasServed ask.now.class bytes self.new.seat meta 0) }
         ensures calm { OnOk result (IsCalm self.old.seat self.new.seat (M.refused self.old.mapper) (M.refused self.new.mapper)) }
+        ensures stores { OnOk result (self.new.seat.stores ≡ self.old.seat.stores) }
         ensures kept { OnErr result (KeepsHand (ledger_of self.old) (ledger_of self.new)) }
         ensures refused { IfErr result (λ number. IsRefused number self.old.seat self.new.seat (M.refused self.old.mapper) (M.refused self.new.mapper)) }
         ensures idle { OnErr result (self.new.seat.held ≡ []) }
@@ -110,6 +114,8 @@ impl<N: Name, M: Mapper, P: Rules> Works<N, M, P> {
         ensures built { HasBuilt meta class count self.old self.new }
         ensures served { (bytes : ℕ) → bytes + 4 ≤ 16 * units_of class → HasServed class bytes self.new.seat meta 0 }
         ensures carried { IsCarriedBy meta slot.0 slot.1 self.old self.new }
+        ensures untouched { (before : View) → IsUnborn before meta → IsUntouched slot.0 slot.1 before self.old.seat
+            → IsUntouched meta 0 before self.new.seat }
         ensures excuses { self.new.seat.excuses ≡ self.old.seat.excuses }
         ensures runs { self.new.seat.desk.layout.runs ≡ self.old.seat.desk.layout.runs }
         ensures mapper { self.new.mapper ≡ self.old.mapper }

@@ -13,6 +13,7 @@ ghost use Rattle.ng_group.specs.Lone.{BuildsLone, IsLoneRefused};
 ghost use Rattle.ng_group.specs.Opening.{AreEmpty, IsFreshMapper, IsFreshSeat, IsHandedBack};
 ghost use Rattle.ng_group.specs.Returning.{ReturnsOfHand};
 ghost use Rattle.ng_group.specs.Steps.{GoesOn};
+ghost use Rattle.ng_group.specs.Untouched.{IsUntouched};
 ghost use Rattle.ng_terms.specs.Accounts.{pages_for};
 ghost use Rattle.ng_view.specs.Steps.{pushed};
 
@@ -128,6 +129,7 @@ impl<N: Name, M: Mapper, P: Rules> Core<N, M, P> {
         ensures apart { IfOk result (λ slot. (token : Token) → HasSlot hand.old token → IsApart token slot) }
         ensures calm { OnOk result
             (NotesNone (M.refused self.old.mapper) (M.refused self.new.mapper)) }
+        ensures untouched { IfOk result (λ slot. IsUntouched slot.meta slot.index self.old.seat self.new.seat) }
         ensures builds { OnOk result (BuildsWanted (P.count_gives self.old.rules) self.old self.new class bytes) }
         ensures excuse { IfErr result
             (GetsExcuse 512 hand.old hand.new
@@ -167,6 +169,7 @@ impl<N: Name, M: Mapper, P: Rules> Core<N, M, P> {
         ensures apart { IfOk result (λ slot. (token : Token) → HasSlot hand.old token → IsApart token slot) }
         ensures calm { OnOk result
             (NotesNone (M.refused self.old.mapper) (M.refused self.new.mapper)) }
+        ensures stores { OnOk result (self.new.seat.stores ≡ self.old.seat.stores) }
         ensures builds { IfOk result (λ slot. BuildsLone slot.meta self.old self.new bytes) }
         ensures excuse { IfErr result
             (GetsExcuse (pages_for bytes) hand.old hand.new

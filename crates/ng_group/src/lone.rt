@@ -33,6 +33,7 @@ impl<N: Name, M: Mapper, P: Rules> Works<N, M, P> {
         ensures hand { KeepsHand (ledger_of self.old) (ledger_of self.new) }
         ensures served { IfOk result (λ meta. HasServed 63 bytes self.new.seat meta 0) }
         ensures calm { OnOk result (IsCalm self.old.seat self.new.seat (M.refused self.old.mapper) (M.refused self.new.mapper)) }
+        ensures stores { OnOk result (self.new.seat.stores ≡ self.old.seat.stores) }
         ensures refused { IfErr result (λ number. IsRefused number self.old.seat self.new.seat (M.refused self.old.mapper) (M.refused self.new.mapper)) }
         ensures idle { OnErr result (self.new.seat.held ≡ []) }
         ensures builds { IfOk result (λ meta. BuildsLone meta self.old self.new bytes) }
@@ -65,6 +66,7 @@ impl<N: Name, M: Mapper, P: Rules> Works<N, M, P> {
         ensures served { OnOk result (HasServed 63 bytes self.new.seat meta 0) }
         ensures stock { self.new.stock ≡ self.old.stock }
         ensures calm { OnOk result (IsCalm self.old.seat self.new.seat (M.refused self.old.mapper) (M.refused self.new.mapper)) }
+        ensures stores { OnOk result (self.new.seat.stores ≡ self.old.seat.stores) }
         ensures refused { IfErr result (λ number. IsRefused number self.old.seat self.new.seat (M.refused self.old.mapper) (M.refused self.new.mapper)) }
         ensures idle { OnErr result (self.new.seat.held ≡ []) }
         ensures built { OnOk result (BuildsAlone meta (pages_for bytes) self.old self.new) }

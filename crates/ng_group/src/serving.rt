@@ -11,6 +11,7 @@ ghost use Rattle.ng_serve.specs.Choices.{IsChoice};
 ghost use Rattle.ng_group.specs.Asking.{GetsSlot, LeavesHeap, RefusedWanted};
 ghost use Rattle.ng_group.specs.Serving.{FindsNoFreed, FindsNoSlot, HasServed, IsServedBy, OnlyRing, StartsWalk};
 ghost use Rattle.ng_group.specs.States.{Working, ledger_of};
+ghost use Rattle.ng_group.specs.Untouched.{IsUntouched};
 ghost use Rattle.ng_group.specs.Steps.{GoesOn, IsCalm, IsRefused, LeavesBelow};
 
 use crate::words::{first_word, follow};
@@ -46,6 +47,7 @@ impl<N: Name, M: Mapper, P: Rules> Works<N, M, P> {
         ensures hand { KeepsHand (ledger_of self.old) (ledger_of self.new) }
         ensures below { LeavesBelow class (ledger_of self.old) (ledger_of self.new) }
         ensures served { IfOk result (λ slot. HasServed class bytes self.new.seat slot.0 slot.1) }
+        ensures untouched { IfOk result (λ slot. IsUntouched slot.0 slot.1 self.old.seat self.new.seat) }
         ensures calm { OnOk result (IsCalm self.old.seat self.new.seat (M.refused self.old.mapper) (M.refused self.new.mapper)) }
         ensures refused { IfErr result (λ number. IsRefused number self.old.seat self.new.seat (M.refused self.old.mapper) (M.refused self.new.mapper)) }
         ensures idle { OnErr result (self.new.seat.held ≡ []) }

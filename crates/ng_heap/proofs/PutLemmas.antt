@@ -59,10 +59,13 @@ same_class class mid after slot x there stays is h found =
 pub same_builds : {M P : Type 0} (counts : Ask → ℕ → Type 0) (before core : State M P) (n : ℕ) (mid after : Caller) (slot : Token) (x : Held)
     → find slot.meta slot.index mid.view.held ≡ Some x → Stays slot.meta slot.index mid.view after.view LiesStill
     → BuildsFor counts before core n mid slot → BuildsFor counts before core n after slot
-same_builds counts before core n mid after slot x there stays builds = ⊎_elim
-    (λ large. inl (large.0, same_class 63 mid after slot x there stays large.1, large.2))
-    (λ small. let of = small.1 in inr (small.0, (of.0, of.1, of.2, same_class of.1 mid after slot x there stays of.3, of.4)))
-    builds
+same_builds counts before core n mid after slot x there stays builds = record {
+  source = ⊎_elim
+      (λ large. inl (large.0, same_class 63 mid after slot x there stays large.1, large.2))
+      (λ small. let of = small.1 in inr (small.0, (of.0, of.1, of.2, same_class of.1 mid after slot x there stays of.3, of.4)))
+      builds.source;
+  untouched = builds.untouched;
+}
 
 -- and so it is once a block was put into it
 pub put_class : (class : ℕ) (mid after : Caller) (slot : Token) → HasSlot mid slot → Stays slot.meta slot.index mid.view after.view LiesStill

@@ -30,6 +30,8 @@ use Rattle.ng_group.specs.Hands.{AreSameSlots, GainsExcuse, GainsSlot, GetsExcus
 use Rattle.ng_group.specs.Lone.{BuildsLone, IsLoneRefused}
 use Rattle.ng_group.specs.States.{State}
 use Rattle.ng_group.specs.Steps.{GoesOn}
+use Rattle.ng_group.specs.Untouched.{IsUntouched}
+use Rattle.ng_group.proofs.UntouchedLemmas.{untouched_same, untouched_since}
 use Rattle.ng_heap.specs.Causes.{BuildsFor, HasClass, HasRefusalCause, Looks, threshold}
 use Rattle.ng_heap.specs.Keeps.{IsFresh}
 
@@ -198,19 +200,26 @@ of_class hand class n slot is = of_tag hand class n slot (λ h. h.place.group.ta
 
 pub answered_lone : {M P : Type 0} (counts : Ask → ℕ → Type 0) (before after : State M P) (n : ℕ) (hand : Caller) (answer : Answer)
     → threshold ≤ n → IfOk answer (IsSlotFor 63 n hand) → IfOk answer (λ slot. BuildsLone slot.meta before after n)
-    → IfOk answer (BuildsFor counts before after n hand)
-answered_lone counts before after n hand (Ok slot) many is builds = inl (many, of_class hand 63 n slot is, builds)
-answered_lone counts before after n hand (Err excuse) many is builds = tt
+    → OnOk answer (after.seat.stores ≡ before.seat.stores) → IfOk answer (BuildsFor counts before after n hand)
+answered_lone counts before after n hand (Ok slot) many is builds stores = record {
+  source = inl (many, of_class hand 63 n slot is, builds);
+  untouched = untouched_same slot.meta slot.index before.seat after.seat stores;
+}
+answered_lone counts before after n hand (Err excuse) many is builds stores = tt
 
 pub answered_builds : {M P : Type 0} (gives : P → Ask → ℕ → Type 0) (before looked after : State M P) (n class : ℕ) (hand : Caller) (answer : Answer)
     → Looks before looked n class → n < threshold → IfOk answer (IsSlotFor class n hand)
     → OnOk answer (BuildsWanted (gives looked.rules) looked after class n)
+    → IfOk answer (λ slot. IsUntouched slot.meta slot.index looked.seat after.seat)
     → IfOk answer (BuildsFor (gives before.rules) before after n hand)
-answered_builds {P = P} gives before looked after n class hand (Ok slot) looks small is builds =
+answered_builds {P = P} gives before looked after n class hand (Ok slot) looks small is builds untouched =
     let wanted : BuildsWanted (gives before.rules) looked after class n =
     subst (λ (r : P). BuildsWanted (gives r) looked after class n) (looked_rules before looked looks.only) builds in
-    inr (small, (looked, class, looks, of_class hand class n slot is, wanted))
-answered_builds gives before looked after n class hand (Err excuse) looks small is builds = tt
+    let noted = looks.only.notes.noted.view in record {
+      source = inr (small, (looked, class, looks, of_class hand class n slot is, wanted));
+      untouched = untouched_since slot.meta slot.index before.seat looked.seat after.seat (ap (λ (v : View). v.stores) noted) (ap (λ (v : View). v.desk.groups) noted) untouched;
+    }
+answered_builds gives before looked after n class hand (Err excuse) looks small is builds untouched = tt
 
 -- ---- a map call was refused
 pub answered_lone_cause : {M P : Type 0} (counts : Ask → ℕ → Type 0) (refused : M → Refusals) (before after : State M P) (n : ℕ)

@@ -4,6 +4,7 @@ use Rattle.ng_group.specs.Asking.{BuildsWanted, LeavesHeap, RefusedWanted}
 use Rattle.ng_group.specs.ClassFor.{IsClassFor, IsLooked}
 use Rattle.ng_group.specs.Lone.{BuildsLone, IsLoneRefused}
 use Rattle.ng_group.specs.States.{State}
+use Rattle.ng_group.specs.Untouched.{IsUntouched}
 use Rattle.ng_mapper.specs.declared.refusals.Refusals.{Refusals}
 use Rattle.ng_policy.specs.declared.ask.Ask.{Ask}
 use Rattle.ng_terms.specs.Accounts.{pages_for}
@@ -29,10 +30,15 @@ HasClass hand slot class = OfSlot hand slot (λ h. h.place.group.tag ≡ class +
 
 -- a request of n bytes got the slot. Where n is large, the slot is a group by itself, which alone was built; else it is of
 -- the class that the core chose as it looked then, and nothing was built that wasn't wanted for it
-abbrev pub BuildsFor : {M P : Type 0} → (Ask → ℕ → Type 0) → State M P → State M P → ℕ → Caller → Token → Type 0
-BuildsFor {M} {P} counts before after n hand slot = ((threshold ≤ n) × HasClass hand slot 63 × BuildsLone slot.meta before after n)
+abbrev pub HasSource : {M P : Type 0} → (Ask → ℕ → Type 0) → State M P → State M P → ℕ → Caller → Token → Type 0
+HasSource {M} {P} counts before after n hand slot = ((threshold ≤ n) × HasClass hand slot 63 × BuildsLone slot.meta before after n)
     ⊎ ((n < threshold) × ((looked : State M P) × (class : ℕ) × Looks before looked n class × HasClass hand slot class
     × BuildsWanted counts looked after class n))
+
+-- and the lock's seat stored nothing in the slot, but for the 0 with which it built the slot's group
+pub record BuildsFor {M P : Type 0} (counts : Ask → ℕ → Type 0) (before after : State M P) (n : ℕ) (hand : Caller) (slot : Token) : Type 0 where
+  pub source : HasSource counts before after n hand slot
+  pub untouched : IsUntouched slot.meta slot.index before.seat after.seat
 
 -- a map call was refused for a request of n bytes: for the run of a block by itself, or of a group that is wanted, or for an
 -- area that is needed; and the core's groups are as they were

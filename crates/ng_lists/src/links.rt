@@ -1,6 +1,7 @@
 //! Numbers that are linked to their neighbours in both directions.
-ghost use Rattle.std.specs.Prelude.{◌≡◌, ◌<◌, ◌^◌, length, replicate, slice_set, IfOk};
+ghost use Rattle.std.specs.Prelude.{◌≡◌, ◌<◌, ◌*◌, ◌^◌, length, replicate, slice_set, IfOk};
 
+use crate::zeros::meta_zeros;
 use ng_terms::Host;
 use std::alloc::Global;
 
@@ -12,14 +13,13 @@ pub struct Links {
 }
 
 impl Links {
-    /// Links from so many indices to 0.
-    pub fn open(alloc: Global, count: usize) -> Result<Links, Host>
-        ensures next { IfOk result (λ links. links.next.items ≡ replicate count 0) }
-        ensures prev { IfOk result (λ links. links.prev.items ≡ replicate count 0) }
+    /// Links from each meta of so many pages to 0.
+    pub fn open(alloc: Global, pages: u32) -> Result<Links, Host>
+        ensures next { IfOk result (λ links. links.next.items ≡ replicate (101 * pages) 0) }
+        ensures prev { IfOk result (λ links. links.prev.items ≡ replicate (101 * pages) 0) }
     {
-        let (Ok(next), Ok(prev)) = (vec![in alloc; 0; count], vec![in alloc; 0; count]) else {
-            return Err(Host);
-        };
+        let next = meta_zeros(alloc, pages)?;
+        let prev = meta_zeros(alloc, pages)?;
         Ok(Links { next, prev })
     }
 

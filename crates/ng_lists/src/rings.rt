@@ -4,7 +4,8 @@ ghost use Rattle.ng_lists.specs.Rings.{AreApart, IsListed, next_in, ring_of, rot
 
 use crate::links::Links;
 use crate::place::{address_of, index_of};
-use ng_meta::{METAS, is_meta_place};
+use crate::zeros::meta_zero_bytes;
+use ng_meta::is_meta_place;
 use ng_terms::Host;
 use std::alloc::Global;
 use std::marker::Model;
@@ -50,12 +51,9 @@ impl Rings {
         ensures empty { IfOk result (λ opened. opened.rings ≡ replicate 48 []) }
         ensures pages { IfOk result (λ opened. opened.pages ≡ pages) }
     {
-        let count = (METAS * pages) as usize;
-        let links = Links::open(alloc, count)?;
-        let (Ok(heads), Ok(marks)) = (
-            vec![in alloc; 0; CLASSES as usize],
-            vec![in alloc; 0; count],
-        ) else {
+        let links = Links::open(alloc, pages)?;
+        let marks = meta_zero_bytes(alloc, pages)?;
+        let Ok(heads) = vec![in alloc; 0; CLASSES as usize] else {
             return Err(Host);
         };
         Ok(Rings {

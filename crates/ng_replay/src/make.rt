@@ -28,15 +28,50 @@ pub fn make<N: Name, M: Mapper, P: Rules>(
     ensures zeroed { mode.align ≡ None → IsTrue mode.zero → IfSome result.1 (λ block. OfSlot hand.new block.slot (AreZero block.at block.len)) }
 {
     match mode.align {
-        Some(align) => aligned_outcome(aligned_in(heap, core, hand, align, size)),
+        Some(align) => make_aligned(heap, core, hand, size, mode, align),
         None => {
             if mode.zero {
-                outcome(heap.calloc_in(core, hand, 1, size))
+                make_zeroed(heap, core, hand, size, mode)
             } else {
                 outcome(heap.malloc_in(core, hand, size))
             }
         }
     }
+}
+
+/// Makes a block at a multiple of `align`, the mode's. Apart, as what it keeps at hand would be set up for a plain make
+/// too.
+fn make_aligned<N: Name, M: Mapper, P: Rules>(
+    heap: &Heap<N>,
+    core: &mut Core<N, M, P>,
+    hand: &mut Hand<N>,
+    size: u64,
+    mode: Mode,
+    align: u64,
+) -> (Made, Option<Block<N>>)
+    requires spare { 1 ≤ hand.old.spare }
+    requires cap { IsSizeCapped mode N.facts.start.cap size }
+    requires asked { mode.align ≡ Some align }
+    ensures { Makes mode size hand.old result.0 result.1 hand.new }
+{
+    aligned_outcome(aligned_in(heap, core, hand, align, size))
+}
+
+/// Makes a block of zeros where the mode asks for no align. Apart, as `make_aligned` is.
+fn make_zeroed<N: Name, M: Mapper, P: Rules>(
+    heap: &Heap<N>,
+    core: &mut Core<N, M, P>,
+    hand: &mut Hand<N>,
+    size: u64,
+    mode: Mode,
+) -> (Made, Option<Block<N>>)
+    requires spare { 1 ≤ hand.old.spare }
+    requires cap { IsSizeCapped mode N.facts.start.cap size }
+    requires unaligned { mode.align ≡ None }
+    ensures made { Makes mode size hand.old result.0 result.1 hand.new }
+    ensures zeroed { IfSome result.1 (λ block. OfSlot hand.new block.slot (AreZero block.at block.len)) }
+{
+    outcome(heap.calloc_in(core, hand, 1, size))
 }
 
 /// What a request came to, and its block.

@@ -2,8 +2,8 @@ ghost use Rattle.std.specs.Prelude.{◌≡◌, ◌≢◌, ◌≤◌, ◌↔◌, 
 ghost use Rattle.ng_meta.specs.Place.{IsMetaPlace};
 ghost use Rattle.ng_shelf.specs.FreeMetas.{FreeList};
 
-use ng_lists::{address_of, index_of};
-use ng_meta::{METAS, is_meta_place};
+use ng_lists::{address_of, index_of, meta_zeros};
+use ng_meta::is_meta_place;
 use ng_terms::Host;
 use std::alloc::Global;
 use std::marker::Model;
@@ -44,9 +44,7 @@ impl FreeMetas {
         ensures empty { IfOk result (λ opened. opened.metas ≡ []) }
         ensures pages { IfOk result (λ opened. opened.pages ≡ pages) }
     {
-        let Ok(after) = vec![in alloc; 0; (METAS * pages) as usize] else {
-            return Err(Host);
-        };
+        let after = meta_zeros(alloc, pages)?;
         Ok(FreeMetas {
             pages,
             after,

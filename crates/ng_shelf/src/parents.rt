@@ -2,8 +2,7 @@ ghost use Rattle.std.specs.Prelude.{◌≡◌, ◌≢◌, ◌<◌, ◌≤◌, �
 ghost use Rattle.ng_meta.specs.Place.{IsMetaPlace};
 ghost use Rattle.ng_shelf.specs.Parents.{IsSameBut, parent_of};
 
-use ng_lists::{address_of, index_of};
-use ng_meta::METAS;
+use ng_lists::{address_of, index_of, meta_zero_bytes, meta_zeros};
 use ng_terms::Host;
 use std::alloc::Global;
 use std::marker::Model;
@@ -42,10 +41,8 @@ impl Parents {
         ensures none { IfOk result (λ opened. (meta : ℕ) → parent_of opened meta ≡ None) }
         ensures pages { IfOk result (λ opened. opened.pages ≡ pages) }
     {
-        let count = (METAS * pages) as usize;
-        let (Ok(metas), Ok(slots)) = (vec![in alloc; 0; count], vec![in alloc; 0; count]) else {
-            return Err(Host);
-        };
+        let metas = meta_zeros(alloc, pages)?;
+        let slots = meta_zero_bytes(alloc, pages)?;
         Ok(Parents {
             pages,
             metas,

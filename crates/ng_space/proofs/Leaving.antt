@@ -13,6 +13,7 @@ use Rattle.ng_view.specs.Places.{owns_at}
 use Rattle.ng_view.specs.Steps.{booked_block, learnt, loaded, stored, with_block, wrote}
 use Rattle.ng_view.specs.declared.view.Held.{Held}
 use Rattle.ng_view.specs.declared.view.Place.{Place}
+use Rattle.ng_view.specs.declared.view.Store.{Store}
 use Rattle.ng_view.specs.declared.view.View.{View}
 use Rattle.ng_space.specs.Blocks.{BlockToken, Kills}
 use Rattle.ng_space.specs.Entries.{Enters}
@@ -22,20 +23,20 @@ use Rattle.ng_space.specs.Leaving.{CameFrom, IsOther, KeepsAll, KeepsCells, Keep
 
 -- ---- what was stored since
 pub nothing_stored : (v w : View) → w.stores ≡ v.stores → StoredSince v w
-nothing_stored v w same = record { more = []; stores = same ∙ sym (append-nil v.stores); after = All-nil (λ (s : ℕ × ℕ). length v.readings ≤ s.1) }
+nothing_stored v w same = record { more = []; stores = same ∙ sym (append-nil v.stores); after = All-nil (λ (s : Store). length v.readings ≤ s.behind) }
 
-one_stored : (v w : View) (a : ℕ) → w.stores ≡ v.stores ++ (a, length v.readings) ∷ [] → StoredSince v w
-one_stored v w a is = record {
-  more = (a, length v.readings) ∷ [];
+one_stored : (v w : View) (s : Store) → s.behind ≡ length v.readings → w.stores ≡ v.stores ++ s ∷ [] → StoredSince v w
+one_stored v w s behind is = record {
+  more = s ∷ [];
   stores = is;
-  after = let P : ℕ × ℕ → Type 0 = λ s. length v.readings ≤ s.1 in All-cons P (a, length v.readings) [] (omega arith) (All-nil P);
+  after = let P : Store → Type 0 = λ s. length v.readings ≤ s.behind in All-cons P s [] (omega (arith, behind)) (All-nil P);
 }
 
 stored_then : (v u w : View) (read : List (ℕ × ℕ)) → u.readings ≡ v.readings ++ read → StoredSince v u → StoredSince u w → StoredSince v w
 stored_then v u w read readings one two = record {
   more = one.more ++ two.more;
-  stores = two.stores ∙ ap (λ (s : List (ℕ × ℕ)). s ++ two.more) one.stores ∙ append_assoc v.stores one.more two.more;
-  after = All-append (λ (s : ℕ × ℕ). length v.readings ≤ s.1) one.more two.more one.after
+  stores = two.stores ∙ ap (λ (s : List Store). s ++ two.more) one.stores ∙ append_assoc v.stores one.more two.more;
+  after = All-append (λ (s : Store). length v.readings ≤ s.behind) one.more two.more one.after
       (λ k d lt. let longer : length u.readings ≡ length v.readings + length read = ap length readings ∙ length-append v.readings read in let later = two.after k d lt in omega (arith, longer, later));
 }
 
@@ -133,7 +134,7 @@ stored_rest v w m i a x is = record {
   taken = ap (λ (u : View). u.taken) is;
   more = [];
   readings = ap (λ (u : View). u.readings) is ∙ sym (append-nil v.readings);
-  stored = one_stored v w a (ap (λ (u : View). u.stores) is);
+  stored = one_stored v w (record { at = a; value = x; behind = length v.readings }) refl (ap (λ (u : View). u.stores) is);
 }
 
 pub booked_others : (slot : Token) (v w : View) (b : Option Extent) (k : ℕ) (e : Entry) → w ≡ booked_block v slot.meta slot.index b k e → KeepsOthers slot v w

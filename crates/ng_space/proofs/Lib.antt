@@ -25,4 +25,3 @@ pub mod Keeping
 pub mod Leaving
 pub mod LeavingFrames
 pub mod LeavingSlots
-pub mod Zeroing

@@ -8,7 +8,7 @@ use Rattle.ng_rule.proofs.geometry.Lists.{among_edit, find_among}
 use Rattle.ng_view.specs.Conditions.{Builds}
 use Rattle.ng_view.specs.LockSteps.{built, learnt_free, read_bits, ring_noted}
 use Rattle.ng_view.specs.Lists.{Among}
-use Rattle.ng_view.specs.Steps.{edited, read, wrote}
+use Rattle.ng_view.specs.Steps.{read, stored, wrote}
 use Rattle.ng_view.specs.declared.view.Group.{Group}
 use Rattle.ng_view.specs.declared.view.Held.{Held}
 use Rattle.ng_view.specs.declared.view.View.{View}
@@ -61,7 +61,7 @@ module _ (facts : Facts) (s t : Seat (Unit {0}) View) (shelf : List book.Shown) 
   stores_stays a x (inr (inl i)) told = quietly v (told.index i) refl refl refl refl refl refl refl refl refl
   stores_stays a x (inr (inr f)) told =
       let c = f.cell in let m = c.slot.place.group.meta in let i = c.slot.place.index in
-      lock_stays facts s t shelf room (edited v m i a x) is same_table same_slots (told.slot c) (record {
+      lock_stays facts s t shelf room (stored v m i a x) is same_table same_slots (told.slot c) (record {
         leads = refl;
         parcel = refl;
         books = refl;

@@ -6,6 +6,7 @@ use Rattle.ng_view.specs.Blocks.{Knows}
 use Rattle.ng_view.specs.Frame.{IsFramed}
 use Rattle.ng_view.specs.Lists.{Among, find}
 use Rattle.ng_view.specs.declared.view.Held.{Held}
+use Rattle.ng_view.specs.declared.view.Store.{Store}
 use Rattle.ng_view.specs.declared.view.View.{View}
 use Rattle.ng_space.specs.Callers.{Caller}
 use Rattle.ng_space.specs.Tokens.{Token}
@@ -40,9 +41,9 @@ IsOther slot m i = (m ≢ slot.meta) ⊎ (i ≢ slot.index)
 -- cells may have been stored since then: the stores have more at their end, each of which came behind all words that
 -- were read till then
 pub record StoredSince (v w : View) : Type 0 where
-  pub more : List (ℕ × ℕ)
+  pub more : List Store
   pub stores : w.stores ≡ v.stores ++ more
-  pub after : All (λ store. length v.readings ≤ store.1) more
+  pub after : All (λ store. length v.readings ≤ store.behind) more
 
 -- what isn't a slot, an entry, a reading or a store is as before, the readings have more at their end, and so have the
 -- stores

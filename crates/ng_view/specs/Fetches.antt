@@ -1,5 +1,5 @@
 -- The fetches of the lock's seat on the masks of a live group.
-use Rattle.std.specs.Prelude.{◌≡◌, ℕ, ◌+◌, ◌%◌, ◌^◌, ◌<◌}
+use Rattle.std.specs.Prelude.{◌≡◌, ℕ, ◌+◌, ◌%◌, ◌^◌}
 use Rattle.ng_view.specs.Lists.{Among}
 use Rattle.ng_view.specs.LockSteps.{AreOut, avail_emptied, bits_of, bits_pushed, bits_stocked, freed_taken}
 use Rattle.ng_view.specs.Slots.{IsPlain}

@@ -41,9 +41,9 @@ wrote a x h = record h { cells = (a, x) ∷ forget a h.cells }
 abbrev pub edited : View → ℕ → ℕ → ℕ → ℕ → View
 edited v m i a x = record v { held = edit m i (wrote a x) v.held }
 
--- a store of a hand in the slot i of the meta m, which comes behind so many readings
+-- a store in the slot i of the meta m, which comes behind so many readings
 abbrev pub stored : View → ℕ → ℕ → ℕ → ℕ → View
-stored v m i a x = record (edited v m i a x) { stores = v.stores ++ (a, length v.readings) ∷ [] }
+stored v m i a x = record (edited v m i a x) { stores = v.stores ++ record { at = a; value = x; behind = length v.readings } ∷ [] }
 
 abbrev pub learnt : ℕ → ℕ → Held → Held
 learnt a x h = record h { cells = cond (owns_at h.place a) ((a, x) ∷ h.cells) h.cells }

@@ -4,7 +4,7 @@ use Rattle.ng_view.specs.Conditions.{Builds}
 use Rattle.ng_view.specs.LockSteps.{built}
 use Rattle.ng_view.specs.Lists.{Among, find}
 use Rattle.ng_view.specs.Places.{Owns, slot_start}
-use Rattle.ng_view.specs.Steps.{edited}
+use Rattle.ng_view.specs.Steps.{stored}
 use Rattle.ng_view.specs.declared.view.Group.{Group}
 use Rattle.ng_view.specs.declared.view.Held.{Held}
 use Rattle.ng_view.specs.declared.view.View.{View}
@@ -35,4 +35,4 @@ MayStore v a x = Builds v a ⊎ IsActiveIndex v a ⊎ FitsMotion v a x
 pub record Stores (v : View) (a x : ℕ) (w : View) : Type 0 where
   pub page : Builds v a → w ≡ built v a x
   pub index : IsActiveIndex v a → w ≡ v
-  pub slot : (c : IsInMotion v a) → w ≡ edited v c.slot.place.group.meta c.slot.place.index a x
+  pub slot : (c : IsInMotion v a) → w ≡ stored v c.slot.place.group.meta c.slot.place.index a x

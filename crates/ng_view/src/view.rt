@@ -83,10 +83,18 @@ pub struct Book {
     pub entries: LinkedList<Entry>,
 }
 
+/// A store in a cell of a slot: the address of the cell, the value, and how many words the seat had read before it.
+#[derive(Drop)]
+pub struct Store {
+    pub at: u64,
+    pub value: u64,
+    pub behind: u64,
+}
+
 /// The view of a seat. A hand has one book and `leads` is false; the lock's seat leads and has the desk; a parcel has
 /// one slot with a block. The counts are of the parcels that were split off and joined. The readings are the pairs
-/// (address, word) that the seat's steps found, in order. The stores are the cells of its slots that a hand stored, in
-/// order, each with the number of readings that it had then.
+/// (address, word) that the seat's steps found, in order. The stores are those in cells of its slots, in order: to the
+/// lock's seat, of its slots in motion.
 #[derive(Drop)]
 pub struct View {
     pub leads: bool,
@@ -98,7 +106,7 @@ pub struct View {
     pub taken: u64,
     pub parcel: bool,
     pub readings: LinkedList<(u64, u64)>,
-    pub stores: LinkedList<(u64, u64)>,
+    pub stores: LinkedList<Store>,
 }
 
 /// What a heap begins with: the pages, bounds and refusals of its mapper, the secret, and the cap.

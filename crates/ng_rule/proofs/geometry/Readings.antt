@@ -21,10 +21,11 @@ use Rattle.ng_view.specs.declared.view.Held.{Held}
 use Rattle.ng_view.specs.declared.view.Desk.{Desk}
 use Rattle.ng_view.specs.declared.view.View.{View}
 use Rattle.ng_view.specs.declared.view.Start.{Start}
+use Rattle.ng_view.specs.declared.view.Store.{Store}
 use Rattle.ng_rule.proofs.geometry.Lists.{desk_same, set_self, set_twice, at_now}
 use Rattle.ng_rule.proofs.geometry.Parts.{Quiet, quiet_excuses, quiet_hands, quiet_history, same_one_block, slots_by, each_keep}
 
-module _ (key : Start) (ws : List ℕ) (vs : List View) (id : ℕ) (v : View) (kept : Rule key ws vs) (here_v : get_elem? vs id ≡ some v) (readings stores : List (ℕ × ℕ)) where
+module _ (key : Start) (ws : List ℕ) (vs : List View) (id : ℕ) (v : View) (kept : Rule key ws vs) (here_v : get_elem? vs id ≡ some v) (readings : List (ℕ × ℕ)) (stores : List Store) where
   abbrev w : View
   w = record v { readings = readings; stores = stores }
 
@@ -64,10 +65,10 @@ stays key ws vs id k v kept e = subst (λ (p : List ℕ × List View). Rule key 
 pub with_reading : (key : Start) (ws : List ℕ) (vs : List View) (id : ℕ) (v w : View) (a x : ℕ) → get_elem? vs id ≡ some v → Rule key ws (set vs id w) → Rule key ws (set vs id (read w a x))
 with_reading key ws vs id v w a x e kept = subst (Rule key ws) (set_twice vs id w (read w a x)) (notes key ws (set vs id w) id w kept (at_now vs id v w e) (w.readings ++ (a, x) ∷ []) w.stores)
 
--- the store comes after so many readings
-pub with_store : (key : Start) (ws : List ℕ) (vs : List View) (id : ℕ) (v w : View) (a n : ℕ) → get_elem? vs id ≡ some v → Rule key ws (set vs id w) → Rule key ws (set vs id (record w { stores = w.stores ++ (a, n) ∷ [] }))
-with_store key ws vs id v w a n e kept =
-    let u : View = record w { stores = w.stores ++ (a, n) ∷ [] } in
+-- the step's store is noted after it
+pub with_store : (key : Start) (ws : List ℕ) (vs : List View) (id : ℕ) (v w : View) (s : Store) → get_elem? vs id ≡ some v → Rule key ws (set vs id w) → Rule key ws (set vs id (record w { stores = w.stores ++ s ∷ [] }))
+with_store key ws vs id v w s e kept =
+    let u : View = record w { stores = w.stores ++ s ∷ [] } in
     subst (Rule key ws) (set_twice vs id w u) (notes key ws (set vs id w) id w kept (at_now vs id v w e) w.readings u.stores)
 
 -- a load that changes the view alone

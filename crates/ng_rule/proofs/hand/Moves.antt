@@ -19,12 +19,12 @@ use Rattle.ng_rule.proofs.geometry.Facts.{marked_live}
 use Rattle.ng_view.specs.Places.{Owns, slot_start, stride}
 use Rattle.ng_view.specs.Rule.{Rule}
 use Rattle.ng_view.specs.Blocks.{IsSet, IsBlock}
-use Rattle.ng_view.specs.Steps.{edited, loaded, stored, popped, pushed, wrote, read}
+use Rattle.ng_view.specs.Steps.{loaded, stored, popped, pushed, wrote, read}
 use Rattle.ng_view.specs.May.{May}
 use Rattle.ng_rule.proofs.geometry.Lists.{set_self, find_among}
 use Rattle.ng_rule.proofs.geometry.Bits.{cleared, raised}
 use Rattle.ng_rule.proofs.hand.Load.{loads, block_more, still_knows}
-use Rattle.ng_rule.proofs.hand.Store.{edits, stores}
+use Rattle.ng_rule.proofs.hand.Store.{stores}
 use Rattle.ng_rule.proofs.hand.Pop.{pops}
 use Rattle.ng_rule.proofs.hand.Push.{pushes, small_freed}
 
@@ -38,11 +38,6 @@ stores_may key id v m i a x h found own al fits low sets ws vs kept e _ = (store
 pub stores_own_may : (key : Start) (id : ℕ) (v : View) (m i a x : ℕ) (h : Held) → find m i v.held ≡ Some h → h.block ≡ None → Owns h.place a → a % 4 ≡ 0 → x < 4294967296 → (a + 4 ≡ slot_start h.place → x % 256 ≡ 0)
     → May key id v (a / 4) (λ n. x) (λ v n w. w ≡ stored v m i a x)
 stores_own_may key id v m i a x h found none own al fits low = stores_may key id v m i a x h found own al fits low (subst (IsSet (wrote a x h)) (sym none) tt)
-
--- the lock's seat notes no store
-pub edits_own_may : (key : Start) (id : ℕ) (v : View) (m i a x : ℕ) (h : Held) → find m i v.held ≡ Some h → h.block ≡ None → Owns h.place a → a % 4 ≡ 0 → x < 4294967296 → (a + 4 ≡ slot_start h.place → x % 256 ≡ 0)
-    → May key id v (a / 4) (λ n. x) (λ v n w. w ≡ edited v m i a x)
-edits_own_may key id v m i a x h found none own al fits low ws vs kept e _ = (edited v m i a x, edits key ws vs id v kept e m i a x h found own al fits low (subst (IsSet (wrote a x h)) (sym none) tt), refl)
 
 -- a store in a block that the slot has: from its address on
 pub stores_in_may : (key : Start) (id : ℕ) (v : View) (m i a x : ℕ) (h : Held) (b : Extent) → find m i v.held ≡ Some h → h.block ≡ Some b → b.at ≤ a → a + 4 < slot_start h.place + stride h.place.group → a % 4 ≡ 0 → x < 4294967296

@@ -180,6 +180,6 @@ module _ (key : Start) (ws : List ℕ) (vs : List View) (id : ℕ) (v : View) (k
           (λ (e : y ≡ wrote a x h). subst (IsKnown ws') (sym e) wrote_known)
           (among_edit_once m i (wrote a x) v.held h y found one s)
 
-  -- a hand notes its store
+  -- and the store is noted
   pub stores : Rule key ws' (set vs id (stored v m i a x))
-  stores = with_store key ws' vs id v w a (length v.readings) here_v edits
+  stores = with_store key ws' vs id v w (record { at = a; value = x; behind = length v.readings }) here_v edits

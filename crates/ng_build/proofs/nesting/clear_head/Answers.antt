@@ -1,5 +1,5 @@
 use Rattle.std.proofs.Common.{inr, refl, arith}
-use Rattle.ng_build.proofs.Heads.{base_fits, head_1, head_2, head_active, head_at, head_base, head_fits, head_high, head_only}
+use Rattle.ng_build.proofs.Heads.{base_fits, head_1, head_2, head_active, head_at, head_base, head_fits, head_high, head_only, head_stores}
 use Rattle.ng_build.proofs.nesting.clear_head.Goals as goal
 
 pub store_page-requires-clause-may : goal.store_page-requires-clause-may
@@ -28,3 +28,6 @@ returns-clause-zero_high g c = head_high _ c.args.meta c.args.index c.args.base 
 
 pub returns-clause-zero_active : goal.returns-clause-zero_active
 returns-clause-zero_active g c = head_active _ c.args.meta c.args.index c.args.base _ (head_at _ _ _ _ c.requires.slot) c.requires.whole c.requires.slot.room _ _ _ 0 0 0 c.store_page.ensures c.store_page-2.ensures c.store_page-3.ensures
+
+pub returns-clause-stores : goal.returns-clause-stores
+returns-clause-stores g c = head_stores _ c.args.meta c.args.index c.args.base _ (head_at _ _ _ _ c.requires.slot) c.requires.whole c.requires.slot.room _ _ _ 0 0 0 c.store_page.ensures c.store_page-2.ensures c.store_page-3.ensures 0 (inr refl) (inr refl) (inr refl)

@@ -1,8 +1,9 @@
-use Rattle.std.proofs.Common.{◌-◌, ◌/◌, inr, refl, subst, arith}
+use Rattle.std.proofs.Common.{◌+◌, ◌-◌, ◌/◌, inl, inr, refl, subst, arith}
 use Rattle.ng_build.specs.Drafts.{draft_group}
 use Rattle.ng_build.specs.Nestings.{SeesIn, carrying_header}
-use Rattle.ng_build.proofs.Heads.{base_fits, carrier_base, carrier_roomy, head_1, head_2, head_active, head_base, head_fits, head_front, head_high, head_only, headed, header_fits, header_only, header_seen, in_range}
+use Rattle.ng_build.proofs.Heads.{base_fits, carrier_base, carrier_roomy, head_1, head_2, head_active, head_base, head_fits, head_front, head_high, head_only, head_stores, headed, header_fits, header_only, header_seen, header_stores, in_range}
 use Rattle.ng_build.proofs.Slots.{slot_both}
+use Rattle.ng_build.proofs.Storing.{stores_both}
 use Rattle.ng_build.proofs.nesting.write_head.Goals as goal
 
 pub cell_of-requires : goal.cell_of-requires
@@ -58,3 +59,11 @@ returns-clause-written g c =
       meta_high = head_high _ p.meta p.index d.base p.stride has c.requires.whole (omega arith) _ _ _ d.meta 0 d.active c.store_page-2.ensures c.store_page-3.ensures c.store_page-4.ensures;
       index = head_active _ p.meta p.index d.base p.stride has c.requires.whole (omega arith) _ _ _ d.meta 0 d.active c.store_page-2.ensures c.store_page-3.ensures c.store_page-4.ensures;
     }
+
+pub returns-clause-stores : goal.returns-clause-stores
+returns-clause-stores g c =
+    let p = c.args.parent.now in let d = c.args.draft.now in
+    let room = carrier_roomy _ p d c.requires.carrier in
+    let has = headed _ _ p d _ c.requires.carrier c.requires.whole c.store_page.ensures in
+    stores_both _ _ _ (d.base + 12) (header_stores _ _ p d _ c.requires.carrier c.requires.whole c.store_page.ensures)
+    (head_stores _ p.meta p.index d.base p.stride has c.requires.whole (omega arith) _ _ _ d.meta 0 d.active c.store_page-2.ensures c.store_page-3.ensures c.store_page-4.ensures (d.base + 12) (inl (omega arith)) (inl (omega arith)) (inl (omega arith)))

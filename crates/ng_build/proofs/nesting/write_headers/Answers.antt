@@ -30,3 +30,6 @@ returns-clause-lows g c = headers_low _ _ c.args.parent.now.meta c.args.parent.n
 
 pub returns-clause-kept : goal.returns-clause-kept
 returns-clause-kept g c = c.loop-i.invariant.kept
+
+pub returns-clause-stores : goal.returns-clause-stores
+returns-clause-stores g c = c.loop-i.invariant.stores

@@ -1,4 +1,4 @@
-use Rattle.ng_space.proofs.Zeroing.{zeros_of}
+use Rattle.ng_terms.proofs.ZeroLemmas.{zeros_of}
 use Rattle.ng_space.proofs.blank.zeros.Goals as goal
 
 pub returns-in-Ok : goal.returns-in-Ok

@@ -1,4 +1,4 @@
-use Rattle.std.proofs.Common.{ap, refl, arith}
+use Rattle.std.proofs.Common.{ap, refl, ◌∙◌, arith}
 use Rattle.ng_terms.specs.Accounts.{pages_for}
 use Rattle.ng_view.specs.declared.view.View.{View}
 use Rattle.ng_group.specs.Hands.{GainsExcuse, GainsSlot}
@@ -66,6 +66,13 @@ returns-in-Ok-clause-apart g c =
 
 pub returns-in-Ok-clause-slots : goal.returns-in-Ok-clause-slots
 returns-in-Ok-clause-slots g c = gained_keeps _ _ _ _ (gains g c) c.slot_to_hand.ensures.once
+
+pub returns-in-Ok-clause-stores : goal.returns-in-Ok-clause-stores
+returns-in-Ok-clause-stores g c =
+    ap (λ (v : View). v.stores) c.slot_to_hand.ensures.seat
+    ∙ ap (λ s. s.seat.stores) (works_of c.self-inside.view_is)
+    ∙ c.in-Ok.ensures.stores
+    ∙ ap (λ s. s.seat.stores) c.self.view_is
 
 pub returns-in-Ok-clause-builds : goal.returns-in-Ok-clause-builds
 returns-in-Ok-clause-builds g c =

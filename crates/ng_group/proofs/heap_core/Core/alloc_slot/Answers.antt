@@ -1,10 +1,12 @@
-use Rattle.std.proofs.Common.{ap, refl, sym, arith, inl, inr}
+use Rattle.std.proofs.Common.{ap, refl, subst, sym, ◌∙◌, arith, inl, inr}
 use Rattle.ng_view.specs.declared.view.View.{View}
 use Rattle.ng_group.specs.Hands.{GainsExcuse, GainsSlot}
+use Rattle.ng_group.specs.Untouched.{IsUntouched}
 use Rattle.ng_group.proofs.AskedLemmas.{passed_builds, passed_cause, passed_leaves}
 use Rattle.ng_group.proofs.CallLemmas.{Refuses, Serves, bounded_calm, bounded_most, excuse_found, excuse_number, first_place, gets_excuse, refuses_at, rests_excuse, rests_slot, serves_at, slot_found, slot_motion, works_of}
 use Rattle.ng_group.proofs.HandKeepLemmas.{apart_of, excused_keeps, gained_keeps}
 use Rattle.ng_group.proofs.HandSlotLemmas.{Tried, excused, passed, passed_slot, tried_book, tried_not, tried_pop, won, won_slot}
+use Rattle.ng_group.proofs.UntouchedLemmas.{untouched_same, untouched_still}
 use Rattle.ng_group.proofs.WorkingLemmas.{goes_same}
 use Rattle.ng_group.proofs.heap_core.Core.alloc_slot.Given.{Over}
 use Rattle.ng_group.proofs.heap_core.Core.alloc_slot.Goals.{in-Some+in-Bare, in_default}
@@ -41,6 +43,9 @@ returns-in-Won-clause-slots g c = gained_keeps _ _ _ _ (gains_won g c) c.in-Won.
 
 pub returns-in-Won-clause-builds : goal.returns-in-Won-clause-builds
 returns-in-Won-clause-builds g c = inl refl
+
+pub returns-in-Won-clause-untouched : goal.returns-in-Won-clause-untouched
+returns-in-Won-clause-untouched g c = untouched_same _ _ c.args.self.now.seat c.args.self.now.seat refl
 
 pub returns-in-Won-clause-on : goal.returns-in-Won-clause-on
 returns-in-Won-clause-on g c = goes_same c.args.self.now.seat
@@ -128,6 +133,17 @@ returns-in-Ok-clause-builds g c =
     refl
     refl
     c.in-Ok.ensures.builds)
+
+pub returns-in-Ok-clause-untouched : goal.returns-in-Ok-clause-untouched
+returns-in-Ok-clause-untouched g c =
+    let passed = c.slot_to_hand.ensures in
+    let inside = works_of c.self-inside-2.view_is in
+    subst (λ m. IsUntouched m c.slot_to_hand.result.index c.args.self.now.seat c.slot_to_hand.new.seat) (sym passed.meta)
+    (subst (λ i. IsUntouched c.in-Ok.meta i c.args.self.now.seat c.slot_to_hand.new.seat) (sym passed.index)
+    (untouched_still c.in-Ok.meta c.in-Ok.index c.args.self.now.seat c.seat_slot.new.self.seat c.slot_to_hand.new.seat
+    (ap (λ (v : View). v.stores) passed.seat ∙ ap (λ s. s.seat.stores) inside)
+    (ap (λ (v : View). v.desk.groups) passed.seat ∙ ap (λ s. s.seat.desk.groups) inside)
+    (subst (λ s. IsUntouched c.in-Ok.meta c.in-Ok.index s.seat c.seat_slot.new.self.seat) c.self.view_is c.in-Ok.ensures.untouched)))
 
 -- ---- the seat passed on an excuse
 pub excuse_to_hand-requires : goal.excuse_to_hand-requires

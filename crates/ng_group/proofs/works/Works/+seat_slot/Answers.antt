@@ -1,7 +1,9 @@
-use Rattle.std.proofs.Common.{ℕ, ◌<◌, refl, sym, ap, subst, ◌∙◌, arith}
+use Rattle.std.proofs.Common.{◌≡◌, ℕ, ◌<◌, refl, sym, ap, subst, ◌∙◌, arith}
 use Rattle.ng_policy.specs.Ask.{IsCount}
 use Rattle.ng_policy.specs.declared.ask.Ask.{Ask}
 use Rattle.ng_ledger.specs.Rings.{IsBare}
+use Rattle.ng_view.specs.Lists.{Among}
+use Rattle.ng_view.specs.declared.view.View.{View}
 use Rattle.ng_group.specs.Building.{IsAsk}
 use Rattle.ng_group.specs.States.{State}
 use Rattle.ng_group.proofs.AskingLemmas.{area_cause, area_leaves, gets_served, none_inside, only_inside}
@@ -10,6 +12,7 @@ use Rattle.ng_group.proofs.LoneSeatLemmas.{stock_at}
 use Rattle.ng_group.proofs.RecursionLemmas.{absent_at}
 use Rattle.ng_group.proofs.SeatSlotLemmas.{HasFound, HasMeta, bare_after, below_less, below_of, meta_found, meta_over, meta_put, meta_then, most_few, page_below, page_on, shape_few}
 use Rattle.ng_group.proofs.SeatWantLemmas.{WasAsked, is_large, is_small, mapped_builds, mapped_cause, mapped_leaves, nested_builds, nested_cause, nested_leaves}
+use Rattle.ng_group.proofs.UntouchedLemmas.{untouched_same, untouched_since}
 use Rattle.ng_group.proofs.WorkingLemmas.{only_below}
 use Rattle.ng_group.proofs.works.Works.+seat_slot.Given.{Over}
 use Rattle.ng_group.proofs.works.Works.+seat_slot.Goals as goal
@@ -79,6 +82,32 @@ seated g t c =
     c.seat_slot.ensures.on
     c.seat_slot.ensures.hand
     (below_less c.slot_for_group-carried.ensures.above c.seat_slot.ensures.below)
+
+-- a meta was found: nothing was stored in a slot, and no group came
+stores_found : (g : Over) (t : ℕ) (c : In_ok-meta g t) → c.find_meta.new.seat.stores ≡ c.args.self.now.seat.stores
+stores_found g t c =
+    ap (λ (v : View). v.stores) c.in_ok-meta.ensures.ok.view.view
+    ∙ ap (λ (v : View). v.stores) (only_inside c.args.class c.args.self.now (opened g t c) c.serve_ring.new.self c.self.view_is c.in_default.ensures.only).view
+
+groups_found : (g : Over) (t : ℕ) (c : In_ok-meta g t) → c.find_meta.new.seat.desk.groups ≡ c.args.self.now.seat.desk.groups
+groups_found g t c =
+    ap (λ (v : View). v.desk.groups) c.in_ok-meta.ensures.ok.view.view
+    ∙ ap (λ (v : View). v.desk.groups) (only_inside c.args.class c.args.self.now (opened g t c) c.serve_ring.new.self c.self.view_is c.in_default.ensures.only).view
+
+pub returns-in-Some-clause-untouched : goal.returns-in-Some-clause-untouched
+returns-in-Some-clause-untouched g t c =
+    untouched_same _ _ c.args.self.now.seat c.serve_ring.new.self.seat (ap (λ (v : View). v.stores) c.in-Some.ensures.only.view)
+
+pub returns-in-Ok-clause-untouched : goal.returns-in-Ok-clause-untouched
+returns-in-Ok-clause-untouched g t c =
+    untouched_same c.in_ok-meta.meta 0 c.args.self.now.seat c.build_mapped.new.self.seat (c.in-Ok.ensures.stores ∙ stores_found g t (goal.at.returns-in-Ok-clause-untouched g t c).In_ok-meta)
+
+pub returns-in-Ok-seat_slot-clause-untouched : goal.returns-in-Ok-seat_slot-clause-untouched
+returns-in-Ok-seat_slot-clause-untouched g t c =
+    let at = (goal.at.returns-in-Ok-seat_slot-clause-untouched g t c).In_ok-meta in
+    c.build_nested.ensures.untouched c.args.self.now.seat
+    (λ k there. c.in_ok-meta.ensures.ok.free.unborn k (subst (Among k) (sym (groups_found g t at)) there))
+    (untouched_since _ _ c.args.self.now.seat c.find_meta.new.seat c.seat_slot.new.self.seat (stores_found g t at) (groups_found g t at) c.in-Ok-seat_slot.ensures.untouched)
 
 pub returns-in-Some-clause-below : goal.returns-in-Some-clause-below
 returns-in-Some-clause-below g t c =

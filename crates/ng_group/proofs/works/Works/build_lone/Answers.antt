@@ -6,7 +6,7 @@ use Rattle.ng_group.specs.States.{State, ledger_of}
 use Rattle.ng_group.specs.Steps.{HandsOver}
 use Rattle.ng_group.proofs.BuildingLemmas.{on_err}
 use Rattle.ng_group.proofs.LoneAskedLemmas.{lone_left}
-use Rattle.ng_group.proofs.LoneLemmas.{ComesAlone, built_alone, hand_alone, lone_in_space, lone_live, may_build_lone, pages_asked, pages_hold, served_alone, working_alone}
+use Rattle.ng_group.proofs.LoneLemmas.{ComesAlone, built_alone, hand_alone, lone_in_space, lone_live, may_build_lone, pages_asked, pages_hold, served_alone, stores_alone, working_alone}
 use Rattle.ng_group.proofs.MappingLemmas.{counted_up, counted_works, mapped_counted, maps_counted, meta_outside, meta_ready, noted_refused, over_counted, run_ready, view_refused, with_seat, working_refused}
 use Rattle.ng_group.proofs.works.Works.build_lone.Given.{Over}
 use Rattle.ng_group.proofs.works.Works.build_lone.Goals as goal
@@ -85,6 +85,9 @@ pub returns-clause-built : goal.returns-clause-built
 returns-clause-built g c =
     built_alone (comes g c) _ c.args.self.now _ (pages_for c.args.bytes) _ c.self.view_is refl refl
     (pages_asked c.args.bytes c.div_ceil-pages.result c.div_ceil-pages.ensures) c.count_run.ensures.counted
+
+pub returns-clause-stores : goal.returns-clause-stores
+returns-clause-stores g c = stores_alone (comes g c) ∙ ap (λ (s : State g.row.M.Denot g.row.P.Denot). s.seat.stores) c.self.view_is
 
 -- ---- the run was refused
 pub returns-in_err-base-clause-asked : goal.returns-in_err-base-clause-asked

@@ -7,7 +7,7 @@ use Rattle.ng_group.specs.Serving.{HasServed}
 use Rattle.ng_group.specs.States.{IsWorking, State, ledger_of}
 use Rattle.ng_group.specs.Steps.{HandsOver, LeavesBelow}
 use Rattle.ng_group.proofs.BuildingLemmas.{few_used, on_err, roomy, shaped_group}
-use Rattle.ng_group.proofs.MappingLemmas.{ComesOnRun, absent, below_counted, below_mapped, counted_up, counted_works, group_in_space, groups_mapped, hand_mapped, mapped_counted, maps_counted, may_build, meta_outside, meta_ready, motion_mapped, noted_refused, over_counted, run_ready, served_mapped, view_refused, working_mapped, working_refused}
+use Rattle.ng_group.proofs.MappingLemmas.{ComesOnRun, absent, below_counted, below_mapped, counted_up, counted_works, group_in_space, groups_mapped, hand_mapped, mapped_counted, maps_counted, may_build, meta_outside, meta_ready, motion_mapped, noted_refused, over_counted, run_ready, served_mapped, stores_mapped, view_refused, working_mapped, working_refused}
 use Rattle.ng_group.proofs.works.Works.build_mapped.Given.{Over}
 use Rattle.ng_group.proofs.works.Works.build_mapped.Goals as goal
 
@@ -126,3 +126,9 @@ returns-clause-counted g c =
     ap (λ (s : State g.row.M.Denot g.row.P.Denot). s.counter) c.enter_first.ensures
     ∙ c.count_run.ensures.counted
     ∙ ap (λ (s : State g.row.M.Denot g.row.P.Denot). (s.counter + 1) % 2 ^ 64) c.self.view_is
+
+pub returns-clause-stores : goal.returns-clause-stores
+returns-clause-stores g c =
+    ap (λ (s : State g.row.M.Denot g.row.P.Denot). s.seat.stores) c.enter_first.ensures
+    ∙ stores_mapped (comes g c)
+    ∙ ap (λ (s : State g.row.M.Denot g.row.P.Denot). s.seat.stores) c.self.view_is

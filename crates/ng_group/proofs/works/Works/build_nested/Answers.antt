@@ -6,7 +6,8 @@ use Rattle.ng_group.specs.States.{IsWorking, State, ledger_of}
 use Rattle.ng_group.specs.Steps.{GoesOn, HandsOver, LeavesBelow}
 use Rattle.ng_group.proofs.BuildingLemmas.{few_used, roomy}
 use Rattle.ng_group.proofs.MappingLemmas.{absent}
-use Rattle.ng_group.proofs.NestingLemmas.{ComesInSlot, MayNest, below_nested, carrier_few, excuses_nested, found_class, found_low, found_paged, groups_nested, hand_nested, has_carrier, may_nest, meta_read, motion_nested, nests_nested, on_nested, runs_nested, served_nested, slot_group, slot_inside, slot_low, slot_whole, working_nested}
+use Rattle.ng_group.proofs.NestingLemmas.{ComesInSlot, MayNest, below_nested, carrier_few, excuses_nested, found_class, found_low, found_paged, groups_nested, hand_nested, has_carrier, may_nest, meta_read, motion_nested, nests_nested, on_nested, runs_nested, served_nested, slot_begins, slot_group, slot_inside, slot_low, slot_whole, untouched_nested, working_nested}
+use Rattle.ng_group.specs.Untouched.{IsUntouched}
 use Rattle.ng_group.proofs.works.Works.build_nested.Given.{Over}
 use Rattle.ng_group.proofs.works.Works.build_nested.Goals as goal
 
@@ -156,3 +157,12 @@ pub returns-clause-counter : goal.returns-clause-counter
 returns-clause-counter g c =
     ap (λ (s : State g.row.M.Denot g.row.P.Denot). s.counter) c.enter_first.ensures
     ∙ ap (λ (s : State g.row.M.Denot g.row.P.Denot). s.counter) c.self.view_is
+
+pub returns-clause-untouched : goal.returns-clause-untouched
+returns-clause-untouched g c before unborn carrier =
+    let may = may g c in
+    let some : 1 ≤ c.args.count = c.requires.count.some in
+    let begins = slot_begins may.may.working c.requires.class c.requires.count c.requires.small c.args.space.now.range.addressed c.requires.slot.1 c.requires.slot.2 may.served c.group_of-group.result (c.group_of-group.ensures.group may.served.group may.served.there may.served.of_meta) c.stride.result c.stride.ensures.value c.group_of-group.new.seat c.group_of-group.ensures.loads (group g c) refl (omega (arith, some)) refl c.slot_start.ensures in
+    subst (λ (s : State g.row.M.Denot g.row.P.Denot). IsUntouched c.args.meta 0 before s.seat) (sym c.enter_first.ensures)
+    (untouched_nested (comes g c) may.served.there begins before unborn
+    (subst (λ (s : State g.row.M.Denot g.row.P.Denot). IsUntouched c.args.slot.0 c.args.slot.1 before s.seat) (sym c.self.view_is) carrier))

@@ -102,4 +102,4 @@ returns-then-group-gt0-clause-ends g c =
 
 pub returns-clause-ends : goal.returns-clause-ends
 returns-clause-ends g c =
-    ends_slot g.M.Mapper.runs c.args.meta c.args.group.now c.self.view_is c.leave_any_ring.ensures.leaves c.retire_group.ensures.ends c.of-parent.result.0 c.of-parent.result.1 c.clear_head.new.seat (omega (arith, c.if-group-gt0.false)) c.of-parent.ensures c.clear_head.ensures.view
+    ends_slot g.M.Mapper.runs c.args.meta c.args.group.now c.self.view_is c.leave_any_ring.ensures.leaves c.retire_group.ensures.ends c.of-parent.result.0 c.of-parent.result.1 c.clear_head.new.seat (omega (arith, c.if-group-gt0.false)) c.of-parent.ensures c.clear_head.ensures.view c.clear_head.ensures.stores

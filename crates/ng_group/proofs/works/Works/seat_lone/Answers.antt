@@ -1,5 +1,6 @@
 use Rattle.std.proofs.Common.{ap, max, refl, ◌∙◌}
 use Rattle.ng_terms.specs.Accounts.{pages_for}
+use Rattle.ng_view.specs.declared.view.View.{View}
 use Rattle.ng_group.specs.States.{State, ledger_of}
 use Rattle.ng_group.proofs.BuildingLemmas.{on_err}
 use Rattle.ng_group.proofs.LoneAskedLemmas.{area_cause, area_leaves, lone_builds, lone_cause, lone_leaves, most_area, most_same}
@@ -28,6 +29,12 @@ returns-in-Err-clause-on g c =
 pub returns-in-Err-clause-hand : goal.returns-in-Err-clause-hand
 returns-in-Err-clause-hand g c =
     failed_hand g.N.Name.facts.start g.M.Mapper.span g.M.Mapper.runs g.M.Mapper.refused c.find_meta.new.mapper c.self.view_is c.in_ok-meta.ensures.ok c.self-2.view_is c.in-Err.ensures.kept c.put.ensures.appended
+
+pub returns-in-Ok-clause-stores : goal.returns-in-Ok-clause-stores
+returns-in-Ok-clause-stores g c =
+    c.in-Ok.ensures.stores
+    ∙ ap (λ (v : View). v.stores) c.in_ok-meta.ensures.ok.view.view
+    ∙ ap (λ (s : State g.row.M.Denot g.row.P.Denot). s.seat.stores) c.self.view_is
 
 pub returns-in-Ok-clause-builds : goal.returns-in-Ok-clause-builds
 returns-in-Ok-clause-builds g c =

@@ -7,7 +7,7 @@ use Rattle.ng_heap.proofs.heap.Heap.slot_for.Goals as goal
 pub returns-then-n-ge-THRESHOLD-clause-builds : goal.returns-then-n-ge-THRESHOLD-clause-builds
 returns-then-n-ge-THRESHOLD-clause-builds g c =
     let alloc = c.alloc_lone.ensures in
-    answered_lone _ _ _ c.args.n c.alloc_lone.new.hand c.alloc_lone.result c.if-n-ge-THRESHOLD.true alloc.slot alloc.builds
+    answered_lone _ _ _ c.args.n c.alloc_lone.new.hand c.alloc_lone.result c.if-n-ge-THRESHOLD.true alloc.slot alloc.builds alloc.stores
 
 pub returns-then-n-ge-THRESHOLD-clause-serves : goal.returns-then-n-ge-THRESHOLD-clause-serves
 returns-then-n-ge-THRESHOLD-clause-serves g c =
@@ -39,7 +39,7 @@ returns-clause-builds g c =
     let alloc = c.alloc_slot.ensures in
     let class = c.class_for-class.ensures in
     answered_builds g.P.Rules.count_gives _ _ _ c.args.n c.class_for-class.result c.alloc_slot.new.hand c.alloc_slot.result
-    (record { only = class.looked; class_is = class.class }) c.if-n-ge-THRESHOLD.false alloc.slot alloc.builds
+    (record { only = class.looked; class_is = class.class }) c.if-n-ge-THRESHOLD.false alloc.slot alloc.builds alloc.untouched
 
 pub returns-clause-serves : goal.returns-clause-serves
 returns-clause-serves g c =

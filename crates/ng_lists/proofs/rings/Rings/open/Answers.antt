@@ -4,12 +4,10 @@ use Rattle.ng_lists.proofs.OpeningLemmas.{opening_shown, opening_sound}
 
 pub invariant_of-result : goal.invariant_of-result
 invariant_of-result c =
-    let heads : c.in-Ok-Ok.heads.items ≡ replicate 48 0 = search rules in
-    let marks : c.in-Ok-Ok.marks.items ≡ replicate (101 * c.args.pages) 0 = search rules in
-    rw (heads, c.in_ok-links.ensures.next, c.in_ok-links.ensures.prev, marks) (opening_sound (101 * c.args.pages) c.args.pages refl c.requires.least c.requires.greatest)
+    let heads : c.in-Ok.heads.items ≡ replicate 48 0 = search rules in
+    rw (heads, c.in_ok-links.ensures.next, c.in_ok-links.ensures.prev, c.in_ok-marks.ensures) (opening_sound (101 * c.args.pages) c.args.pages refl c.requires.least c.requires.greatest)
 
 pub returns-clause-empty : goal.returns-clause-empty
 returns-clause-empty c =
-    let heads : c.in-Ok-Ok.heads.items ≡ replicate 48 0 = search rules in
-    let marks : c.in-Ok-Ok.marks.items ≡ replicate (101 * c.args.pages) 0 = search rules in
-    rw (heads, c.in_ok-links.ensures.next, marks) (opening_shown (101 * c.args.pages) 0 48)
+    let heads : c.in-Ok.heads.items ≡ replicate 48 0 = search rules in
+    rw (heads, c.in_ok-links.ensures.next, c.in_ok-marks.ensures) (opening_shown (101 * c.args.pages) 0 48)
